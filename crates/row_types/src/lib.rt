@@ -5,6 +5,7 @@
 #![tactic(auto)]
 
 mod allocation;
+mod filters;
 mod hits;
 mod lists;
 mod refusals;
@@ -13,6 +14,7 @@ mod texts;
 mod vectors;
 
 pub use crate::allocation::Memory;
+pub use crate::filters::{CompareOp, Filter, Operand, holds};
 pub use crate::hits::{Distance, Hit, Metric};
 pub use crate::lists::List;
 pub use crate::refusals::VectorError;
