@@ -1,4 +1,5 @@
 pub mod Bits
 pub mod Filters
 pub mod Hits
+pub mod Schemas
 pub mod Spelling

@@ -10,6 +10,7 @@ mod hits;
 mod lists;
 mod refusals;
 mod rows;
+mod schemas;
 mod texts;
 mod vectors;
 
@@ -19,5 +20,6 @@ pub use crate::hits::{Distance, Hit, Metric};
 pub use crate::lists::List;
 pub use crate::refusals::VectorError;
 pub use crate::rows::{Field, Key, Kind, Row, Schema};
+pub use crate::schemas::FieldError;
 pub use crate::texts::Text;
 pub use crate::vectors::BitVector;
