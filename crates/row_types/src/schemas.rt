@@ -121,3 +121,55 @@ fn find(given: &[(Text, Field)], name: &str) -> Option<usize>
 {
     given.iter().position(|g| g.0.as_str() == name)
 }
+
+#[cfg(test)]
+mod tests {
+    use super::*;
+
+    /// What arranging these fields under the columns `lang`, a text, and `year`, a number, gives.
+    fn outcome(alloc: Global, given: &[(&str, bool)]) -> Result<List<Field>, FieldError> {
+        let columns = vec![in alloc;
+            (Text::copied(alloc, "lang")?, Kind::Text),
+            (Text::copied(alloc, "year")?, Kind::Int),
+        ]?;
+        let schema = Schema {
+            columns: List::of(columns),
+        };
+        let mut fields = Vec::new(alloc);
+        for (name, is_number) in given {
+            let value = if *is_number {
+                Field::Int(2021)
+            } else {
+                Field::Text(Text::copied(alloc, "en")?)
+            };
+            fields.push((Text::copied(alloc, *name)?, value))?;
+        }
+        schema.arrange(alloc, fields)
+    }
+
+    fn told(outcome: Result<List<Field>, FieldError>) -> &'static str {
+        match outcome {
+            Ok(fields) => match fields.as_slice() {
+                [Field::Text(text), Field::Int(2021)] if text.is("en") => "arranged",
+                _ => "disarranged",
+            },
+            Err(FieldError::Missing { field }) if field.is("year") => "no year",
+            Err(FieldError::WrongKind { field }) if field.is("lang") => "no text",
+            Err(FieldError::Unknown { field }) if field.is("size") => "no column size",
+            Err(_) => "another fault",
+        }
+    }
+
+    #[test]
+    fn fields_stand_in_the_order_of_the_columns_or_the_first_fault_is_told(rt: HostRuntime) {
+        let alloc = rt.alloc();
+        let both = told(outcome(alloc, &[("year", true), ("lang", false)]));
+        assert_eq!(rt; both, "arranged");
+        let short = told(outcome(alloc, &[("size", true), ("lang", false)]));
+        assert_eq!(rt; short, "no year");
+        let wrong = told(outcome(alloc, &[("size", true), ("lang", true)]));
+        assert_eq!(rt; wrong, "no text");
+        let more = told(outcome(alloc, &[("size", true), ("year", true), ("lang", false)]));
+        assert_eq!(rt; more, "no column size");
+    }
+}
