@@ -1,6 +1,5 @@
 -- What ends the reading of an input, in the order of its bytes.
-use Rattle.std.specs.Prelude.{◌≡◌, ◌↔◌, ℕ, ◌≤◌, ◌==◌, Bool, false, List, ◌++◌, length, Option, Some, None, IsSome, IfSome}
-use Rattle.std.specs.List.{AllByRecursion}
+use Rattle.std.specs.Prelude.{◌≡◌, ◌≢◌, ◌↔◌, ℕ, ◌<◌, ◌≤◌, List, slice_index, ◌++◌, length, Option, Some, None, IsSome, IfSome}
 use Rattle.coarse_lists.specs.declared.collections.Collection.{Collection}
 use Rattle.request_lines.specs.Headers.{header_of}
 use Rattle.input_lines.specs.declared.limits.TheConstants.{MAX_INPUT}
@@ -34,9 +33,16 @@ EndsReading Limit bytes = (rest : List ℕ) → PassesLimit (bytes ++ rest)
 EndsReading Fault bytes = ⊥
 EndsReading Memory bytes = Unit {0}
 
+-- the same of an input that has these bytes and has come to its end
+abbrev pub EndedReading : ReadError → List ℕ → Type 0
+EndedReading BadHeader bytes = HasBadHeader bytes
+EndedReading Limit bytes = ⊥
+EndedReading Fault bytes = ⊥
+EndedReading Memory bytes = Unit {0}
+
 -- no line has ended in these bytes
 abbrev pub IsOpen : List ℕ → Type 0
-IsOpen bytes = AllByRecursion (λ byte. (byte == 10) ≡ false) bytes
+IsOpen bytes = (k : ℕ) → k < length bytes → slice_index bytes k ≢ 10
 
 -- what is known of line 1: it has not ended, or it makes this collection
 abbrev pub KnowsHeader : List ℕ → Option Collection → Type 0
@@ -44,7 +50,7 @@ KnowsHeader bytes None = IsOpen bytes
 KnowsHeader bytes (Some collection) = (rest : List ℕ) → header_of (first_line (bytes ++ rest)) ≡ Some collection
 
 -- what is known while the input comes
-pub record IsSoFar (bytes : List ℕ) (lines : ℕ) (current : Option ℕ) (header : Option Collection) : Type 0 where
+pub record IsSoFar (bytes : List ℕ) (lines : ℕ) (current : Option ℕ) (found : Option Collection) : Type 0 where
   pub size : length bytes ≤ MAX_INPUT
   pub limits : (rest : List ℕ) → HasFewLines (bytes ++ rest) ↔ LimitsBehind lines current (lines_of rest)
-  pub header : KnowsHeader bytes header
+  pub header : KnowsHeader bytes found
