@@ -1,5 +1,5 @@
 -- Counts of faults, and what a failed call owes to them.
-use Rattle.std.specs.Prelude.{◌≡◌, ℕ, ◌+◌, ◌-◌, ◌^◌, ◌≤◌, ◌==◌, min, Bool, List, Result, Ok, Err, OnErr, if◌then◌else◌}
+use Rattle.std.specs.Prelude.{◌≡◌, ℕ, ◌+◌, ◌-◌, ◌^◌, ◌≤◌, ◌==◌, min, Bool, Result, Ok, Err, OnErr, if◌then◌else◌}
 use Rattle.std.specs.List.{list_any}
 use Rattle.manu_edge.specs.declared.faults.KeepError.{KeepError}
 use Rattle.manu_edge.specs.declared.faults.KeepError.TheVariants.{Failed, Memory}

@@ -1,5 +1,5 @@
 -- What the calls of a keeper do to the objects that it tells.
-use Rattle.std.specs.Prelude.{◌≡◌, ◌⊎◌, ℕ, List, Option, Some, None, option_map, Result, MatchResult}
+use Rattle.std.specs.Prelude.{◌≡◌, ◌⊎◌, ℕ, List, map, Option, Some, None, Result, MatchResult}
 use Rattle.std.specs.Ordering.{nat_cmp}
 use Rattle.std.specs.FinMap as fin
 
@@ -20,3 +20,12 @@ Changes old new result change = WhereTold old new (λ before after. MatchResult 
 -- nothing changes
 abbrev pub Stays : Option Objects → Option Objects → Type 0
 Stays old new = WhereTold old new (λ before after. after ≡ before)
+
+-- the objects that some entries are, each of what `bytes_of` sees in it
+abbrev pub objects_of : {V : Type 0} → (V → List ℕ) → List (ℕ × V) → Objects
+objects_of bytes_of entries = fin.from_entries (map (λ entry. (entry.0, bytes_of entry.1)) entries)
+
+-- the objects with other bytes under a name, or with none
+abbrev pub spoiled : ℕ → Option (List ℕ) → Objects → Objects
+spoiled name None objects = fin.remove objects name
+spoiled name (Some bytes) objects = fin.insert objects name bytes

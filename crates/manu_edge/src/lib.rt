@@ -18,6 +18,6 @@ pub use crate::adapters::{StandardInput, StandardOutput, SystemClock};
 pub use crate::clocks::{FixedMoments, Moments};
 pub use crate::faults::{Failed, FailurePlan, KeepError};
 pub use crate::gates::{At, Gate, OpenGate, Point};
-pub use crate::keepers::Keeper;
+pub use crate::keepers::{Keeper, MapKeeper};
 pub use crate::sinks::{BytesSink, Sink};
 pub use crate::sources::{BytesSource, Source};
