@@ -3,7 +3,7 @@
 ghost use Rattle.std.specs.Prelude.{◌≡◌, Ok, IfOk, IfErr};
 ghost use Rattle.serde_json.specs.View.{view};
 ghost use Rattle.row_types.specs.Bits.{IsDimension};
-ghost use Rattle.request_lines.specs.Requests.{operation_in, form_in, and_then, request_in, request_of, Refuses};
+ghost use Rattle.request_lines.specs.Requests.{operation_in, form_in, and_then, request_in, request_of, Refuses, Fits};
 
 use crate::operations::{Operation, ask_in, form_in, operation_in};
 use crate::refusals::LineError;
@@ -24,6 +24,7 @@ fn request_in(alloc: Global, collection: &Collection, value: &Value) -> Result<R
     requires { IsDimension collection.now.dim }
     ensures ok { IfOk result (λ request. request_in collection.now (view value.now) ≡ Ok request) }
     ensures err { IfErr result (Refuses (request_in collection.now (view value.now))) }
+    ensures fits { IfOk result (Fits collection.now) }
 {
     let operation = match formed_in(value) {
         Ok(operation) => operation,
@@ -38,6 +39,7 @@ pub fn read_line(alloc: Global, bytes: &[u8], collection: &Collection) -> Result
     requires { IsDimension collection.now.dim }
     ensures ok { IfOk result (λ request. request_of collection.now bytes.now ≡ Ok request) }
     ensures err { IfErr result (Refuses (request_of collection.now bytes.now)) }
+    ensures fits { IfOk result (Fits collection.now) }
 {
     match read_value(alloc, bytes) {
         Err(_) => Err(LineError::Memory),

@@ -32,6 +32,7 @@ pub fn vector_in(alloc: Global, value: &Value, dim: u32) -> Result<BitVector, Li
     requires { IsDimension dim }
     ensures ok { IfOk result (λ vector. vector_in dim (view value.now) ≡ Ok vector) }
     ensures err { IfErr result (Refuses (vector_in dim (view value.now))) }
+    ensures dim { IfOk result (λ vector. length vector ≡ dim) }
 {
     let Some(text) = text_at(value, "vector") else {
         return Err(LineError::Refused(Reason::NoVector));

@@ -3,7 +3,7 @@
 ghost use Rattle.std.specs.Prelude.{◌≡◌, Ok, length, IfOk, IfErr};
 ghost use Rattle.serde_json.specs.View.{view};
 ghost use Rattle.row_types.specs.Bits.{IsDimension};
-ghost use Rattle.request_lines.specs.Requests.{operation_of, operation_in, form_in, row_in, query_in, search_in, ask_in, Refuses};
+ghost use Rattle.request_lines.specs.Requests.{operation_of, operation_in, form_in, row_in, query_in, search_in, ask_in, Refuses, FitsQuery, FitsAsk};
 
 use crate::members::{k_in, key_in, level_in, vector_in};
 use crate::refusals::LineError;
@@ -71,6 +71,7 @@ fn row_in(alloc: Global, value: &Value, dim: u32) -> Result<Row, LineError>
     requires { IsDimension dim }
     ensures ok { IfOk result (λ row. row_in dim (view value.now) ≡ Ok row) }
     ensures err { IfErr result (Refuses (row_in dim (view value.now))) }
+    ensures dim { IfOk result (λ row. length row.vector ≡ dim) }
 {
     let key = match key_in(value) {
         Ok(key) => key,
@@ -88,6 +89,7 @@ fn query_in(alloc: Global, value: &Value, dim: u32) -> Result<Query, LineError>
     requires { IsDimension dim }
     ensures ok { IfOk result (λ query. query_in dim (view value.now) ≡ Ok query) }
     ensures err { IfErr result (Refuses (query_in dim (view value.now))) }
+    ensures fits { IfOk result (FitsQuery dim) }
 {
     let vector = vector_in(alloc, value, dim)?;
     match k_in(value) {
@@ -106,6 +108,7 @@ pub fn ask_in(
     requires { IsDimension collection.now.dim }
     ensures ok { IfOk result (λ ask. ask_in collection.now (view value.now) operation ≡ Ok ask) }
     ensures err { IfErr result (Refuses (ask_in collection.now (view value.now) operation)) }
+    ensures fits { IfOk result (FitsAsk collection.now.dim) }
 {
     let dim = collection.dim;
     match operation {
@@ -124,6 +127,7 @@ fn search_in(alloc: Global, value: &Value, dim: u32) -> Result<Ask, LineError>
     requires { IsDimension dim }
     ensures ok { IfOk result (λ ask. search_in dim (view value.now) ≡ Ok ask) }
     ensures err { IfErr result (Refuses (search_in dim (view value.now))) }
+    ensures fits { IfOk result (FitsAsk dim) }
 {
     let query = query_in(alloc, value, dim)?;
     match level_in(value) {
