@@ -1,3 +1,4 @@
 pub mod Bits
 pub mod Hits
+pub mod Orders
 pub mod Spelling
