@@ -1,5 +1,5 @@
 -- A log of writes, and the rows that it leaves.
-use Rattle.std.specs.Prelude.{ℕ, ◌<◌, ◌≤◌, Bool, cond, List, [], ◌∷◌, if◌then◌else◌, nat_le, nat_lt, ℤ}
+use Rattle.std.specs.Prelude.{ℕ, ◌<◌, Bool, List, [], ◌∷◌, if◌then◌else◌, nat_le, nat_lt, ℤ}
 use Rattle.std.specs.List.{filter, AllByRecursion}
 use Rattle.std.specs.Ordering.{int_cmp}
 use Rattle.std.specs.FinMap as fin

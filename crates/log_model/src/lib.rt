@@ -3,6 +3,7 @@
 //! compute them plainly, from the log alone.
 #![tactic(auto)]
 
+mod distances;
 mod logs;
 mod queries;
 

@@ -1,0 +1,5 @@
+pub mod LogLaws
+pub mod RowMaps
+pub mod Counts
+pub mod Applies
+pub mod Reached
