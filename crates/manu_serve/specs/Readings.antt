@@ -1,6 +1,7 @@
 -- What ends the reading of an input, in the order of its bytes.
 use Rattle.std.specs.Prelude.{◌≡◌, ◌≢◌, ◌↔◌, ℕ, ◌<◌, ◌≤◌, List, slice_index, ◌++◌, length, Option, Some, None, IsSome, IfSome}
 use Rattle.coarse_lists.specs.declared.collections.Collection.{Collection}
+use Rattle.coarse_lists.specs.Collections.{IsInRange}
 use Rattle.request_lines.specs.Headers.{header_of}
 use Rattle.input_lines.specs.declared.limits.TheConstants.{MAX_INPUT}
 use Rattle.input_lines.specs.Lines.{lines_of, first_line}
@@ -47,7 +48,7 @@ IsOpen bytes = (k : ℕ) → k < length bytes → slice_index bytes k ≢ 10
 -- what is known of line 1: it has not ended, or it makes this collection
 abbrev pub KnowsHeader : List ℕ → Option Collection → Type 0
 KnowsHeader bytes None = IsOpen bytes
-KnowsHeader bytes (Some collection) = (rest : List ℕ) → header_of (first_line (bytes ++ rest)) ≡ Some collection
+KnowsHeader bytes (Some collection) = ((rest : List ℕ) → header_of (first_line (bytes ++ rest)) ≡ Some collection) × IsInRange collection
 
 -- what is known while the input comes
 pub record IsSoFar (bytes : List ℕ) (lines : ℕ) (current : Option ℕ) (found : Option Collection) : Type 0 where

@@ -1,12 +1,13 @@
 //! Reading an input to its end, or to the first event that ends it.
 
-ghost use Rattle.std.specs.Prelude.{◌≡◌, ◌⊎◌, ℕ, List, [], ◌++◌, ◌+◌, ◌≤◌, ◌<◌, ◌≢◌, slice_index, length, take, IfOk, IfErr, OnErr, Some, None};
+ghost use Rattle.std.specs.Prelude.{◌≡◌, ◌⊎◌, ℕ, List, [], ◌++◌, ◌+◌, ◌≤◌, ◌<◌, length, take, IfOk, IfErr, OnErr, Some, None};
 ghost use Rattle.std.specs.Io.KnownBytes.{Consumes, IsAtEnd, Keeps};
 ghost use Rattle.input_lines.specs.Lines.{first_line};
 ghost use Rattle.input_lines.specs.Limits.{IsWithin};
+ghost use Rattle.coarse_lists.specs.Collections.{IsInRange};
 ghost use Rattle.request_lines.specs.Headers.{header_of};
 ghost use Rattle.manu_edge.specs.Faults.{Rose};
-ghost use Rattle.manu_serve.specs.Readings.{HasReadCause, EndsReading, EndedReading, KnowsHeader, IsSoFar};
+ghost use Rattle.manu_serve.specs.Readings.{HasReadCause, EndsReading, EndedReading, IsOpen, KnowsHeader, IsSoFar};
 
 use coarse_lists::Collection;
 use input_lines::{MAX_INPUT, MAX_LINE, Progress, find_end};
@@ -53,6 +54,7 @@ pub fn read_input<S: Source>(alloc: Global, source: &mut S) -> Result<Input, Rea
     ensures bytes { IfOk result (λ input. Consumes (S.left source.old) (S.left source.new) input.bytes.items × IsAtEnd (S.left source.new)) }
     ensures within { IfOk result (λ input. IsWithin input.bytes.items) }
     ensures header { IfOk result (λ input. header_of (first_line input.bytes.items) ≡ Some input.collection) }
+    ensures in_range { IfOk result (λ input. IsInRange input.collection) }
     ensures cause { IfErr result (λ error. HasReadCause error (S.left source.old) (S.faults source.old) (S.faults source.new)) }
 {
     let Ok(mut buffer) = vec![in alloc; 0u8; PIECE] else {
@@ -122,18 +124,21 @@ impl Reading {
         if bytes.extend_from_slice(piece).is_err() {
             return Err(ReadError::Memory);
         }
-        let header = match header {
-            Some(collection) => Some(collection),
-            None => find_header(alloc, &bytes, from)?,
+        let header = match find_header(alloc, header, &bytes, from) {
+            Ok(header) => header,
+            Err(error) => return Err(error),
         };
-        match progress.walk(piece) {
-            Ok(progress) if bytes.len() <= MAX_INPUT => Ok(Reading {
-                bytes,
-                progress,
-                header,
-            }),
-            _ => Err(ReadError::Limit),
+        let Ok(progress) = progress.walk(piece) else {
+            return Err(ReadError::Limit);
+        };
+        if bytes.len() > MAX_INPUT {
+            return Err(ReadError::Limit);
         }
+        Ok(Reading {
+            bytes,
+            progress,
+            header,
+        })
     }
 
     // The input, once it has come to its end.
@@ -142,6 +147,7 @@ impl Reading {
         ensures bytes { IfOk result (λ input. input.bytes.items ≡ self.bytes.items) }
         ensures within { IfOk result (λ input. IsWithin input.bytes.items) }
         ensures header { IfOk result (λ input. header_of (first_line input.bytes.items) ≡ Some input.collection) }
+        ensures in_range { IfOk result (λ input. IsInRange input.collection) }
         ensures ended { IfErr result (λ error. EndedReading error self.bytes.items) }
     {
         let Reading {
@@ -149,19 +155,36 @@ impl Reading {
             progress: _,
             header,
         } = self;
-        let collection = match header {
-            Some(collection) => collection,
-            None => header_of_line(alloc, &bytes)?,
-        };
-        Ok(Input { bytes, collection })
+        match last_header(alloc, header, &bytes) {
+            Ok(collection) => Ok(Input { bytes, collection }),
+            Err(error) => Err(error),
+        }
+    }
+}
+
+// What is known of line 1 once more bytes have come; `header` is what was known of those before `from`.
+fn find_header(
+    alloc: Global,
+    header: Option<Collection>,
+    bytes: &[u8],
+    from: usize,
+) -> Result<Option<Collection>, ReadError>
+    requires from { from ≤ length bytes.now }
+    requires known { KnowsHeader (take from bytes.now) header }
+    ensures known { IfOk result (λ found. KnowsHeader bytes.now found) }
+    ensures ended { IfErr result (λ error. EndsReading error bytes.now) }
+{
+    match header {
+        Some(collection) => Ok(Some(collection)),
+        None => first_header(alloc, bytes, from),
     }
 }
 
 // The collection of line 1, where that ends in these bytes; none of those before `from` is an LF.
-fn find_header(alloc: Global, bytes: &[u8], from: usize) -> Result<Option<Collection>, ReadError>
+fn first_header(alloc: Global, bytes: &[u8], from: usize) -> Result<Option<Collection>, ReadError>
     requires from { from ≤ length bytes.now }
-    requires open { (k : ℕ) → k < from → slice_index bytes.now k ≢ 10 }
-    ensures known { IfOk result (λ header. KnowsHeader bytes.now header) }
+    requires open { IsOpen (take from bytes.now) }
+    ensures known { IfOk result (λ found. KnowsHeader bytes.now found) }
     ensures ended { IfErr result (λ error. EndsReading error bytes.now) }
 {
     let end = find_end(bytes, from);
@@ -177,9 +200,23 @@ fn find_header(alloc: Global, bytes: &[u8], from: usize) -> Result<Option<Collec
     }
 }
 
+// The collection of line 1, once the input has come to its end.
+fn last_header(alloc: Global, header: Option<Collection>, bytes: &[u8]) -> Result<Collection, ReadError>
+    requires known { KnowsHeader bytes.now header }
+    ensures ok { IfOk result (λ collection. header_of (first_line bytes.now) ≡ Some collection) }
+    ensures in_range { IfOk result IsInRange }
+    ensures err { IfErr result (λ error. (error ≡ ReadError.Memory) ⊎ ((error ≡ ReadError.BadHeader) × (header_of (first_line bytes.now) ≡ None))) }
+{
+    match header {
+        Some(collection) => Ok(collection),
+        None => header_of_line(alloc, bytes),
+    }
+}
+
 // The collection that a line makes.
 fn header_of_line(alloc: Global, line: &[u8]) -> Result<Collection, ReadError>
     ensures ok { IfOk result (λ collection. header_of line.now ≡ Some collection) }
+    ensures in_range { IfOk result IsInRange }
     ensures err { IfErr result (λ error. (error ≡ ReadError.Memory) ⊎ ((error ≡ ReadError.BadHeader) × (header_of line.now ≡ None))) }
 {
     match read_header(alloc, line) {
