@@ -7,6 +7,8 @@
 mod answers;
 mod lines;
 mod reasons;
+#[cfg(test)]
+mod tests;
 mod values;
 
 pub use crate::answers::{Answer, MeetReply, WriteReply, Wrote};

@@ -13,6 +13,8 @@ mod gates;
 mod keepers;
 mod sinks;
 mod sources;
+#[cfg(test)]
+mod tests;
 
 pub use crate::adapters::{StandardInput, StandardOutput, SystemClock};
 pub use crate::clocks::{FixedMoments, Moments};

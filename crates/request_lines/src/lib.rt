@@ -10,6 +10,8 @@ mod members;
 mod operations;
 mod refusals;
 mod requests;
+#[cfg(test)]
+mod tests;
 mod values;
 
 pub use crate::headers::read_header;
