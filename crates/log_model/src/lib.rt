@@ -6,6 +6,8 @@
 mod distances;
 mod logs;
 mod queries;
+mod slow;
 
 pub use crate::logs::{Entry, Write};
 pub use crate::queries::{Plan, Query};
+pub use crate::slow::live_at;
