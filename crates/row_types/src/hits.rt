@@ -135,13 +135,11 @@ impl Ord for Hit {
     ghost matches_eq = { λ x y. refl };
 
     fn cmp(&self, other: &Hit) -> Ordering {
-        self.distance
-            .compare_values(other.distance)
-            .then_with(|| self
-                .key
-                .0
-                .cmp(&other.key.0)
-                .then_with(|| self.distance.compare_parts(other.distance)))
+        let by_value = self.distance.compare_values(other.distance);
+        let by_key = self.key.cmp(&other.key);
+        by_value
+            .then(by_key)
+            .then_with(|| self.distance.compare_parts(other.distance))
     }
 }
 
