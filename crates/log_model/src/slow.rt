@@ -1,14 +1,18 @@
 //! The live rows and the hits of a search, computed from the log alone.
 
-ghost use Rattle.std.specs.Prelude.{◌≡◌, OnOk, IfOk};
+ghost use Rattle.std.specs.Prelude.{◌≡◌, length, map, OnOk, IfOk};
+ghost use Rattle.std.specs.List.{AllByRecursion};
 ghost use Rattle.std.specs.Ordering.{int_cmp};
 ghost use Rattle.std.specs.BTreeMap.{insert_entry};
 ghost use Rattle.std.specs.FinMap as fin;
 ghost use Rattle.log_model.specs.Logs.{Rows, applied, live};
+ghost use Rattle.log_model.specs.Scans.{hit_of, scan, HasDimension};
 
+use crate::distances::distance;
 use crate::logs::{Entry, Write};
+use crate::queries::{Plan, Query};
 use hybrid_time::Timestamp;
-use row_types::{Memory, Row};
+use row_types::{Hit, Memory, Row};
 use std::alloc::Global;
 use std::collections::BTreeMap;
 
@@ -52,4 +56,39 @@ pub fn live_at(alloc: Global, log: &[Entry], ts: Timestamp) -> Result<Vec<Row>, 
         }
     }
     Ok(rows.into_values().collect(alloc)?)
+}
+
+/// The hits of a search at a timestamp: of the rows that are live there, the `k` nearest to the
+/// query's vector, in rising order.
+pub fn scan_at(
+    alloc: Global,
+    log: &[Entry],
+    ts: Timestamp,
+    plan: &Plan,
+    query: &Query,
+) -> Result<Vec<Hit>, Memory>
+    requires { HasDimension (length query.now.vector) log.now }
+    ensures { IfOk result (λ hits. hits.items ≡ scan log.now ts.0 plan.now query.now) }
+{
+    let rows = live_at(alloc, log, ts)?;
+    let mut hits = measure(alloc, rows.as_slice(), plan, query)?;
+    hits.sort()?;
+    hits.dedup();
+    hits.truncate(query.k as usize);
+    Ok(hits)
+}
+
+/// Each row as a hit.
+fn measure(alloc: Global, rows: &[Row], plan: &Plan, query: &Query) -> Result<Vec<Hit>, Memory>
+    requires { AllByRecursion (λ row. length row.vector ≡ length query.now.vector) rows.now }
+    ensures { IfOk result (λ hits. hits.items ≡ map (hit_of plan.now query.now) rows.now) }
+{
+    let mut hits = Vec::with_capacity(alloc, rows.len())?;
+    'rows: for row in rows {
+        hits.push(Hit {
+            distance: distance(plan.metric, &query.vector, &row.vector),
+            key: row.key,
+        })?;
+    }
+    Ok(hits)
 }
