@@ -85,10 +85,13 @@ pub record Past : Type 0 where
   pub mine : ℕ
   pub known : ℕ → ℕ
 
-abbrev pub past_of : Start → List Line → Line → Past
-past_of start earlier line = record {
+abbrev pub past_for : Start → List Line → Option ℕ → Past
+past_for start earlier who = record {
   met = last_meet start.m0 earlier;
-  told = greatest (all_stamps (heard (caller_of line.asked) earlier));
-  mine = last_write 0 (heard (caller_of line.asked) earlier);
-  known = λ channel. max (last_meet start.m0 earlier) (greatest (all_told channel (heard (caller_of line.asked) earlier)));
+  told = greatest (all_stamps (heard who earlier));
+  mine = last_write 0 (heard who earlier);
+  known = λ channel. max (last_meet start.m0 earlier) (greatest (all_told channel (heard who earlier)));
 }
+
+abbrev pub past_of : Start → List Line → Line → Past
+past_of start earlier line = past_for start earlier (caller_of line.asked)

@@ -3,3 +3,4 @@ pub mod RowMaps
 pub mod Counts
 pub mod Applies
 pub mod Reached
+pub mod Dimensions

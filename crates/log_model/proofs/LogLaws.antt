@@ -1,12 +1,17 @@
 -- Laws of logs: what was written above a timestamp changes nothing at it.
-use Rattle.std.proofs.Common.{◌≡◌, ℕ, ◌<◌, ◌≤◌, Bool, true, false, cond, List, [], ◌∷◌, ◌++◌, refl, ap, ◌∙◌}
+use Rattle.std.proofs.Common.{◌≡◌, ℕ, ◌<◌, ◌≤◌, Bool, true, false, cond, List, [], ◌∷◌, ◌++◌, map, refl, ap, ◌∙◌}
 use Rattle.std.specs.List.{filter, AllByRecursion}
 use Rattle.std.specs.FinMap as fin
 use Rattle.std.proofs.lemmas.Bool.{le-leb, lt-leb, lt-ltb, le-ltb}
 use Rattle.std.proofs.lemmas.List.{append-nil}
 use Rattle.std.proofs.lemmas.List.Elements.{filter-append}
 use Rattle.log_model.specs.declared.logs.Entry.{Entry}
-use Rattle.log_model.specs.Logs.{Rows, up_to, below, applied, after, rows_of, live}
+use Rattle.log_model.specs.declared.logs.Write.{Write}
+use Rattle.log_model.specs.declared.queries.Plan.{Plan}
+use Rattle.log_model.specs.declared.queries.Query.{Query}
+use Rattle.log_model.specs.Logs.{Rows, key_of, up_to, below, applied, after, rows_of, live, was_live}
+use Rattle.log_model.specs.Scans.{hit_of, scan}
+use Rattle.row_types.specs.Hits.{least}
 
 module _ {X : Type 0} where
   pub each-append : (P : X → Type 0) (xs ys : List X) → AllByRecursion P xs → AllByRecursion P ys → AllByRecursion P (xs ++ ys)
@@ -60,3 +65,10 @@ rows_of-append log more = after-append fin.empty log more
 pub rows_of-after : (log : List Entry) → rows_of log ≡ after fin.empty log
 unfolding rows_of
 rows_of-after log = refl
+
+pub was_live-more : (log more : List Entry) (ts : ℕ) (write : Write) → AllByRecursion (λ entry. ts ≤ entry.ts.0) more → was_live (log ++ more) ts write ≡ was_live log ts write
+was_live-more log more ts write above = ap (λ l. fin.contains_key (rows_of l) (key_of write)) (below-more log more ts above)
+
+pub scan-more : (log more : List Entry) (ts : ℕ) (plan : Plan) (query : Query) → AllByRecursion (λ entry. ts < entry.ts.0) more → scan (log ++ more) ts plan query ≡ scan log ts plan query
+unfolding scan
+scan-more log more ts plan query above = ap (λ rows. least query.k (map (hit_of plan query) (fin.values rows))) (live-more log more ts above)

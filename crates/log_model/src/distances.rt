@@ -2,7 +2,10 @@
 
 ghost use Rattle.std.specs.Prelude.{◌≡◌, ◌≤◌, cond, length};
 ghost use Rattle.row_types.specs.Bits.{bits_of, bits_in, count_pairs};
+ghost use Rattle.row_types.specs.Hits.{fraction_of, distance_of};
 ghost use Rattle.log_model.specs.Counts.{passes};
+
+use row_types::{BitVector, Distance, Metric};
 
 /// What is asked of the two bits at a position.
 #[derive(Debug, Clone, Copy)]
@@ -52,4 +55,37 @@ fn count_words(question: Question, xs: &[u64], ys: &[u64]) -> u32
         total += count_word(question, xs[i], ys[i]);
     }
     total
+}
+
+/// How many positions of two vectors pass.
+fn count(question: Question, a: &BitVector, b: &BitVector) -> u32
+    requires { length a.now ≡ length b.now }
+    ensures { result ≡ count_pairs (passes question) a.now b.now }
+{
+    count_words(question, a.words(), b.words())
+}
+
+/// The share of the union that is not common, where there is a union.
+fn fraction(union: u32, common: u32) -> Distance
+    ensures { result ≡ fraction_of union common }
+{
+    if union == 0 {
+        Distance::Jaccard { num: 0, den: 1 }
+    } else {
+        Distance::Jaccard {
+            num: union.saturating_sub(common),
+            den: union,
+        }
+    }
+}
+
+/// The distance of two vectors by a metric.
+pub fn distance(metric: Metric, a: &BitVector, b: &BitVector) -> Distance
+    requires { length a.now ≡ length b.now }
+    ensures { result ≡ distance_of metric a.now b.now }
+{
+    match metric {
+        Metric::Hamming => Distance::Hamming(count(Question::Differ, a, b)),
+        Metric::Jaccard => fraction(count(Question::Either, a, b), count(Question::Both, a, b)),
+    }
 }
