@@ -42,3 +42,8 @@ IsBehindAll kept last = (hit : Hit) → hit_cmp last hit ≡ Less → least kept
 abbrev pub hits_of : List Kept → List Hit
 hits_of [] = []
 hits_of (kept ∷ lists) = kept.hits ++ hits_of lists
+
+-- what a list has become when some hits were offered
+pub record Offered (old now : Kept) (offered : List Hit) : Type 0 where
+  pub k : now.k ≡ old.k
+  pub hits : now.hits ≡ least old.k (old.hits ++ offered)

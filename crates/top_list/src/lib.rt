@@ -6,6 +6,8 @@
 #![tactic(auto)]
 
 mod buffers;
+mod filling;
 mod tops;
 
+pub use crate::filling::Gather;
 pub use crate::tops::TopList;

@@ -1,11 +1,12 @@
 //! A top list that is in order at all times.
 
-ghost use Rattle.std.specs.Prelude.{◌≡◌, ℕ, ◌≤◌, ◌∷◌, ◌++◌, [], length, IfOk};
+ghost use Rattle.std.specs.Prelude.{◌≡◌, ◌<◌, ◌≤◌, ◌∷◌, ◌++◌, [], length, vec_capacity, IfOk};
 ghost use Rattle.std.specs.List.Sorted.{IsStrictlySortedBy};
 ghost use Rattle.row_types.specs.Hits.{hit_cmp, least, IsOneDistanceAKey, IsEachKeyOnce};
 ghost use Rattle.top_list.specs.Kept.{hits_of};
 
-use crate::buffers::place;
+use crate::buffers::{cut, place};
+use crate::filling::Gather;
 use row_types::{Hit, Memory};
 use std::alloc::Global;
 use std::marker::Model;
@@ -63,5 +64,35 @@ impl TopList {
         ensures each_key_once { IsOneDistanceAKey self.now.hits → IsEachKeyOnce self.now.hits }
     {
         self.hits.as_slice()
+    }
+
+    /// The same list, to be filled; takes no memory.
+    pub fn gather(self) -> Gather
+        ensures { result ≡ self }
+    {
+        Gather::begin(self.k, self.hits)
+    }
+
+    pub(crate) fn settled(k: u32, mut hits: Vec<Hit>) -> TopList
+        requires some { 0 < k }
+        requires room { k < vec_capacity hits }
+        ensures { result ≡ record { k = k; hits = least k hits.items } }
+    {
+        let _last = cut(&mut hits, k);
+        TopList { k, hits }
+    }
+
+    /// The `k` least of the hits of all these lists.
+    pub fn merge(alloc: Global, lists: &[TopList], k: u32) -> Result<TopList, Memory>
+        requires some { 1 ≤ k }
+        requires bound { k ≤ 16384 }
+        ensures least { IfOk result (λ list. list ≡ record { k = k; hits = least k (hits_of lists.now) }) }
+        ensures each_key_once { IfOk result (λ list. IsOneDistanceAKey (hits_of lists.now) → IsEachKeyOnce list.hits) }
+    {
+        let mut gather = TopList::new(alloc, k)?.gather();
+        'lists: for list in lists {
+            gather.offer_all(list.hits());
+        }
+        Ok(gather.settle())
     }
 }
