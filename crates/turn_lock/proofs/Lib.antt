@@ -1,0 +1,4 @@
+mod Comings
+mod Entries
+mod Lines
+mod Steps
