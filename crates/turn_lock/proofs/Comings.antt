@@ -1,10 +1,11 @@
 -- How the lock begins and ends, and how seats come and go.
-use Rattle.std.proofs.Common.{◌≡◌, ℕ, zero, suc, ◌+◌, ◌<◌, ◌≤◌, ◌≢◌, List, [], ◌∷◌, ◌++◌, map, length, get_or, drop, set, sym, refl, ap, ◌∙◌, subst, arith}
-use Rattle.std.proofs.lemmas.List.{map-set}
+use Rattle.std.proofs.Common.{◌≡◌, ℕ, zero, suc, ◌+◌, ◌<◌, ◌≤◌, ◌≢◌, List, [], ◌∷◌, ◌++◌, map, length, get_or, drop, set, replicate, sym, refl, ap, ◌∙◌, subst, arith, length-append}
+use Rattle.std.proofs.lemmas.List.{map-set, get_or_append_left, get_or-replicate}
 use mathlib.Core.Option.{none, some, some-injective, some-ne-none}
 use mathlib.Core.Option as maybe
 use mathlib.Core.List.{map-append}
-use lib.ListN.{get_elem?, length-map}
+use lib.ListN.{get_elem?, length-map, length-replicate}
+use lib.Seq.{drop-append_seam}
 use Rattle.std.specs.Prelude.{Option, Some, None}
 use Rattle.atomic_table.specs.Table.{State, Splits, Joins, opening, Final, Seen}
 use Rattle.atomic_table.proofs.Lists.{at_map}
@@ -70,6 +71,15 @@ module _ {S C : Type 0} (holds : List ℕ → Homes S → List C → Type 0) whe
     };
     kept = subst (λ (z : List ℕ × Homes S). holds z.0 z.1 (v ∷ [])) (λ j. (sym is j, sym (all_first xs) j)) first;
   }
+
+  -- the lock as `new` lays it out
+  pub opens : (row own : List ℕ) (xs : List S) (ys : List (Option S)) (n : ℕ) (v : C) → n ≡ length xs → row ≡ replicate (n + n) 0 ++ own → ys ≡ map Some xs → holds own (all_home xs) (v ∷ [])
+      → Ticketed holds (opening row ys (doing [] v))
+  opens row own xs ys n v count laid moved first = let m : ℕ = length xs in let zeros : List ℕ = replicate (m + m) 0 in let size : length zeros ≡ m + m = length-replicate (m + m) 0 in
+      let is : row ≡ zeros ++ own = laid ∙ ap (λ (z : ℕ). replicate (z + z) 0 ++ own) count in
+      subst (λ (z : List ℕ × List (Option S)). Ticketed holds (opening z.0 z.1 (doing [] v))) (λ j. (sym is j, sym moved j))
+      (starts (zeros ++ own) own xs v (let e = length-append zeros own in omega arith) (λ k near. get_or_append_left zeros own 0 k (omega arith) ∙ get_or-replicate (m + m) k 0 0 near)
+      (ap (λ (z : ℕ). drop z (zeros ++ own)) (sym size) ∙ drop-append_seam zeros own) first)
 
   home_at : (ds : List (Doing C)) (k : ℕ) (h : maybe.Option (Option S)) → h ≢ none → IsPlaced ds k h → (x : S) × (h ≡ some (Some x))
   home_at ds k none ne p = absurd (ne refl)

@@ -1,6 +1,6 @@
 -- How values move between a vector and the slots of a table.
 use Rattle.std.proofs.Common.{◌≡◌, ℕ, zero, suc, ◌+◌, ◌<◌, ◌≤◌, List, [], ◌∷◌, ◌++◌, map, length, get_or, drop, take, replicate, set, sym, refl, ap, ◌∙◌, subst, arith, append-nil}
-use Rattle.std.proofs.lemmas.List.{map-append, reverse-append}
+use Rattle.std.proofs.lemmas.List.{map-append, reverse-append, get_or-drop}
 use Rattle.std.proofs.lemmas.Option.{same_Some}
 use lib.ListN.{length-replicate}
 use lib.Seq.{drop-append_seam}
@@ -58,3 +58,12 @@ emptied_more (f ∷ fs) zero zero before near = refl
 emptied_more (f ∷ fs) zero (suc k) before near = absurd (omega arith)
 emptied_more (f ∷ fs) (suc i) zero before near = before (omega arith)
 emptied_more (f ∷ fs) (suc i) (suc k) before near = emptied_more fs i k (λ l. before (omega arith)) (omega arith)
+
+found : (ws : List ℕ) (i x : ℕ) → get_elem? ws i ≡ some x → get_or ws i 0 ≡ x
+found [] i x e = absurd (some-ne-none x (sym e))
+found (w ∷ ws) zero x e = some-injective w x e
+found (w ∷ ws) (suc i) x e = found ws i x e
+
+-- a word behind the first n
+pub word_behind : (ws : List ℕ) (n j x : ℕ) → get_elem? ws (n + j) ≡ some x → x ≡ get_or (drop n ws) j 0
+word_behind ws n j x e = sym (found ws (n + j) x e) ∙ sym (get_or-drop n ws j 0)
