@@ -11,3 +11,6 @@ mod tops;
 
 pub use crate::filling::Gather;
 pub use crate::tops::TopList;
+
+#[cfg(test)]
+mod tests;
