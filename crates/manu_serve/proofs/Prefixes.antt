@@ -1,10 +1,11 @@
 -- What the first bytes of an input already say.
-use Rattle.std.proofs.Common.{◌≡◌, ◌≢◌, ℕ, suc, ◌+◌, ◌<◌, ◌≤◌, List, [], ◌∷◌, ◌++◌, length, length-take, get_or, take, ap, sym, ◌∙◌, subst, arith, Option, Some, None, IsSome, append-nil, append_assoc, refl, ◌↔◌, length-append}
+use Rattle.std.proofs.Common.{◌≡◌, ◌≢◌, ◌⊎◌, inl, inr, ℕ, zero, suc, ◌+◌, ◌<◌, ◌≤◌, List, [], ◌∷◌, ◌++◌, length, length-take, get_or, take, ap, sym, ◌∙◌, subst, arith, Option, Some, None, IsSome, append-nil, append_assoc, refl, ◌↔◌, length-append}
 use Rattle.std.specs.Io.KnownBytes.{Consumes, Keeps, IsAtEnd}
 use Rattle.coarse_lists.specs.Collections.{IsInRange}
 use Rattle.manu_edge.specs.Faults.{Rose}
 use Rattle.manu_serve.specs.declared.reading.ReadError.{ReadError}
 use Rattle.manu_serve.specs.declared.reading.ReadError.TheVariants.{BadHeader, Fault, Limit, Memory}
+use Rattle.std.proofs.lemmas.List.{get_or-take, length-take-le}
 use Rattle.std.specs.List.{AllByRecursion}
 use Rattle.coarse_lists.specs.declared.collections.Collection.{Collection}
 use Rattle.request_lines.specs.Headers.{header_of}
@@ -14,7 +15,7 @@ use Rattle.input_lines.specs.Limits.{IsShort, HasFewLines, IsWithin, LimitsBehin
 use Rattle.input_lines.proofs.Cuts.{lines_of-open, first_line-ended, first_line-open, first_line-longer}
 use Rattle.manu_serve.specs.Readings.{HasBadHeader, PassesLimit, HasReadCause, EndsReading, EndedReading, IsOpen, KnowsHeader, IsSoFar}
 
-first_is_short : (lines : List (List ℕ)) → AllByRecursion IsShort lines → IsShort (first_or_empty lines)
+pub first_is_short : (lines : List (List ℕ)) → AllByRecursion IsShort lines → IsShort (first_or_empty lines)
 first_is_short [] h = omega arith
 first_is_short (line ∷ lines) h = h.0
 
@@ -42,6 +43,29 @@ module _ (bytes : List ℕ) (i : ℕ) (within : i < length bytes) (here : get_or
   pub good_line : (collection : Collection) → header_of (take i bytes) ≡ Some collection → IsInRange collection → KnowsHeader bytes (Some collection)
   good_line collection good valid = ((λ rest. ap header_of (line rest) ∙ good), valid)
 
+  pub refused_line : (error : ReadError) → i ≤ MAX_LINE → (error ≡ Memory) ⊎ ((error ≡ BadHeader) × (header_of (take i bytes) ≡ None)) → EndsReading error bytes
+  refused_line error fits why = elim why [ inl e ↦ rw e tt | inr h ↦ rw h.0 (bad_line fits h.1) ]
+
+le-or-lt : (a b : ℕ) → (a ≤ b) ⊎ (b < a)
+le-or-lt zero b = inl (omega arith)
+le-or-lt (suc a) zero = inr (omega arith)
+le-or-lt (suc a) (suc b) = elim (le-or-lt a b) [ inl p ↦ inl (omega arith) | inr q ↦ inr (omega arith) ]
+
+-- no line ends before `end`, where none ends before `from` nor between them
+pub opened : (bytes : List ℕ) (from end : ℕ) → from ≤ length bytes → IsOpen (take from bytes) → ((k : ℕ) → from ≤ k → k < end → get_or bytes k 0 ≢ 10) → (k : ℕ) → k < end → get_or bytes k 0 ≢ 10
+opened bytes from end within unended later k lt here =
+    elim (le-or-lt from k) [
+      inl p ↦ later k p lt here
+    | inr q ↦ unended k (omega (arith, length-take-le from bytes within)) (get_or-take from bytes k 0 q ∙ here)
+    ]
+
+-- line 1, where the input has come to its end
+pub last_line : (bytes : List ℕ) (o : Option Collection) → IsOpen bytes → header_of bytes ≡ o → header_of (first_line bytes) ≡ o
+last_line bytes o unended e = ap header_of (first_line-open bytes unended) ∙ e
+
+pub last_refused : (error : ReadError) (bytes : List ℕ) → IsOpen bytes → (error ≡ Memory) ⊎ ((error ≡ BadHeader) × (header_of bytes ≡ None)) → (error ≡ Memory) ⊎ ((error ≡ BadHeader) × (header_of (first_line bytes) ≡ None))
+last_refused error bytes unended why = elim why [ inl e ↦ inl e | inr h ↦ inr (h.0, last_line bytes None unended h.1) ]
+
 -- the limits on lines hold of what was read, where they are kept behind it
 pub kept_now : (bytes : List ℕ) (lines : ℕ) (current : Option ℕ) (found : Option Collection) → lines ≤ MAX_LINES → IsSoFar bytes lines current found → IsWithin bytes
 kept_now bytes lines None found few so_far =
@@ -50,28 +74,31 @@ kept_now bytes lines (Some n) found few so_far =
     record { bytes = so_far.size; lines = subst HasFewLines (append-nil bytes) ((so_far.limits []).1 tt) }
 
 few_open : (bytes : List ℕ) → IsOpen bytes → length bytes ≤ MAX_LINE → HasFewLines bytes
-few_open [] open fits = (tt, omega arith)
-few_open (b ∷ bytes) open fits = rw (lines_of-open (b ∷ bytes) (omega arith) open) ((fits, tt), omega arith)
+few_open [] unended fits = (tt, omega arith)
+few_open (b ∷ bytes) unended fits = rw (lines_of-open (b ∷ bytes) (omega arith) unended) ((fits, tt), omega arith)
 
 open_long : (bytes : List ℕ) → IsOpen bytes → (HasFewLines bytes → ⊥) → MAX_LINE < length bytes
-open_long bytes open over = let short : length bytes ≤ MAX_LINE → ⊥ = λ fits. over (few_open bytes open fits) in omega (arith, short)
+open_long bytes unended over = let short : length bytes ≤ MAX_LINE → ⊥ = λ fits. over (few_open bytes unended fits) in omega (arith, short)
 
 pub is_some_of : {T : Type 0} (o : Option T) (x : T) → o ≡ Some x → IsSome o
-is_some_of o x e = rw e tt
+is_some_of o x e = rw e refl
 
 -- where a line or their number passes a limit, line 1 is too long itself or makes a collection
 pub over_lines : (bytes : List ℕ) (found : Option Collection) → KnowsHeader bytes found → ((rest : List ℕ) → HasFewLines (bytes ++ rest) → ⊥) → (rest : List ℕ) → PassesLimit (bytes ++ rest)
-over_lines bytes None open over rest =
-    let long : MAX_LINE < length bytes = open_long bytes open (λ few. over [] (subst HasFewLines (sym (append-nil bytes)) few)) in
-    record { past = λ w. over rest w.lines; header = λ short. absurd (omega (arith, short, first_line-longer bytes rest open)) }
+over_lines bytes None unended over rest =
+    let long : MAX_LINE < length bytes = open_long bytes unended (λ few. over [] (subst HasFewLines (sym (append-nil bytes)) few)) in
+    record { past = λ w. over rest w.lines; header = λ short. absurd (omega (arith, short, first_line-longer bytes rest unended)) }
 over_lines bytes (Some collection) known over rest =
     record { past = λ w. over rest w.lines; header = λ short. is_some_of _ collection (known.0 rest) }
 
 pub over_bytes : (bytes : List ℕ) (found : Option Collection) → KnowsHeader bytes found → MAX_INPUT < length bytes → (rest : List ℕ) → PassesLimit (bytes ++ rest)
-over_bytes bytes None open over rest =
-    record { past = λ w. omega (arith, w.bytes, length-append bytes rest); header = λ short. absurd (omega (arith, short, first_line-longer bytes rest open)) }
+over_bytes bytes None unended over rest =
+    record { past = λ w. omega (arith, w.bytes, length-append bytes rest); header = λ short. absurd (omega (arith, short, first_line-longer bytes rest unended)) }
 over_bytes bytes (Some collection) known over rest =
     record { past = λ w. omega (arith, w.bytes, length-append bytes rest); header = λ short. is_some_of _ collection (known.0 rest) }
+
+pub known_now : (bytes : List ℕ) (collection : Collection) → KnowsHeader bytes (Some collection) → header_of (first_line bytes) ≡ Some collection
+known_now bytes collection known = subst (λ (l : List ℕ). header_of (first_line l) ≡ Some collection) (append-nil bytes) (known.0 [])
 
 -- what was known of the first bytes is known of more
 pub known_longer : (bytes piece : List ℕ) (collection : Collection) → KnowsHeader bytes (Some collection) → KnowsHeader (bytes ++ piece) (Some collection)
@@ -119,6 +146,9 @@ ends_cause Limit (Some xs) None bytes before now h k = absurd k
 ends_cause Limit (Some xs) (Some ys) bytes before now h k = subst PassesLimit (sym k) (h ys)
 ends_cause Fault a c bytes before now h k = absurd h
 ends_cause Memory a c bytes before now h k = tt
+
+pub ended_of : (error : ReadError) (bytes : List ℕ) → IsShort (first_line bytes) → (error ≡ Memory) ⊎ ((error ≡ BadHeader) × (header_of (first_line bytes) ≡ None)) → EndedReading error bytes
+ended_of error bytes short why = elim why [ inl e ↦ rw e tt | inr h ↦ rw h.0 (record { short = short; none = h.1 }) ]
 
 pub ended_cause : (error : ReadError) (a c : Option (List ℕ)) (bytes : List ℕ) (before now : ℕ) → EndedReading error bytes → Consumes a c bytes → IsAtEnd c → HasReadCause error a before now
 ended_cause BadHeader None c bytes before now h k e = tt

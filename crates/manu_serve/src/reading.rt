@@ -48,6 +48,7 @@ pub struct Input {
 /// Reads all that a source has left. The first event in the order of the bytes ends it: that line 1
 /// has ended and makes no collection, that a limit is passed, that the source fails, or the end. At
 /// most one byte more than an input may have is taken.
+#[tactic(none)]
 pub fn read_input<S: Source>(alloc: Global, source: &mut S) -> Result<Input, ReadError>
     ensures later { S.faults source.old ≤ S.faults source.new }
     ensures bounded { (piece : List ℕ) × Consumes (S.left source.old) (S.left source.new) piece × (length piece ≤ MAX_INPUT + 1) }
@@ -209,7 +210,10 @@ fn last_header(alloc: Global, header: Option<Collection>, bytes: &[u8]) -> Resul
 {
     match header {
         Some(collection) => Ok(collection),
-        None => header_of_line(alloc, bytes),
+        None => match header_of_line(alloc, bytes) {
+            Ok(collection) => Ok(collection),
+            Err(error) => Err(error),
+        },
     }
 }
 
