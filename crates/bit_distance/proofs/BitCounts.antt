@@ -120,18 +120,18 @@ pub differing_at : (ws us : List ℕ) (i : ℕ) → i < length ws → i < length
     → hamming_of (bits_in 64 (drop i ws)) (bits_in 64 (drop i us)) ≡ count_ones (bit_xor (get_or ws i 0) (get_or us i 0)) + hamming_of (bits_in 64 (drop (i + 1) ws)) (bits_in 64 (drop (i + 1) us))
 differing_at = count_at differ bit_xor xor_makes
 
-pub set_at : (ws us : List ℕ) (i : ℕ) → i < length ws → i < length us → get_or ws i 0 < 2 ^ 64 → get_or us i 0 < 2 ^ 64
+pub union_at : (ws us : List ℕ) (i : ℕ) → i < length ws → i < length us → get_or ws i 0 < 2 ^ 64 → get_or us i 0 < 2 ^ 64
     → union_of (bits_in 64 (drop i ws)) (bits_in 64 (drop i us)) ≡ count_ones (bit_or (get_or ws i 0) (get_or us i 0)) + union_of (bits_in 64 (drop (i + 1) ws)) (bits_in 64 (drop (i + 1) us))
-set_at = count_at either bit_or or_makes
+union_at = count_at either bit_or or_makes
 
 -- four words of a chunk at its place, and those after it
 pub differing_chunk : (ws us x y : List ℕ) (i k : ℕ) → length ws ≡ length us → k ≡ length ws / 4 → i < k → x ≡ get_or (first_chunks 4 k ws) i [] → y ≡ get_or (first_chunks 4 k us) i []
     → hamming_of (bits_in 64 (drop (i * 4) ws)) (bits_in 64 (drop (i * 4) us)) ≡ hamming_of (bits_in 64 x) (bits_in 64 y) + hamming_of (bits_in 64 (drop ((i + 1) * 4) ws)) (bits_in 64 (drop ((i + 1) * 4) us))
 differing_chunk = chunk_more differ
 
-pub set_chunk : (ws us x y : List ℕ) (i k : ℕ) → length ws ≡ length us → k ≡ length ws / 4 → i < k → x ≡ get_or (first_chunks 4 k ws) i [] → y ≡ get_or (first_chunks 4 k us) i []
+pub union_chunk : (ws us x y : List ℕ) (i k : ℕ) → length ws ≡ length us → k ≡ length ws / 4 → i < k → x ≡ get_or (first_chunks 4 k ws) i [] → y ≡ get_or (first_chunks 4 k us) i []
     → union_of (bits_in 64 (drop (i * 4) ws)) (bits_in 64 (drop (i * 4) us)) ≡ union_of (bits_in 64 x) (bits_in 64 y) + union_of (bits_in 64 (drop ((i + 1) * 4) ws)) (bits_in 64 (drop ((i + 1) * 4) us))
-set_chunk = chunk_more either
+union_chunk = chunk_more either
 
 -- ---- vectors
 
@@ -166,5 +166,5 @@ union_parts (false ∷ xs) (false ∷ ys) = omega (arith, union_parts xs ys)
 pub differing_packed : (a b : List Bool) (ws us : List ℕ) → AreWordsOf a ws → AreWordsOf b us → length a ≡ length b → hamming_of (bits_in 64 ws) (bits_in 64 us) ≡ hamming_of a b
 differing_packed = count_packed differ refl
 
-pub set_packed : (a b : List Bool) (ws us : List ℕ) → AreWordsOf a ws → AreWordsOf b us → length a ≡ length b → union_of (bits_in 64 ws) (bits_in 64 us) ≡ union_of a b
-set_packed = count_packed either refl
+pub union_packed : (a b : List Bool) (ws us : List ℕ) → AreWordsOf a ws → AreWordsOf b us → length a ≡ length b → union_of (bits_in 64 ws) (bits_in 64 us) ≡ union_of a b
+union_packed = count_packed either refl

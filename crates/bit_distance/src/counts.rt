@@ -17,7 +17,7 @@ pub fn differing_in<const W: usize>(a: &[u64; W], b: &[u64; W]) -> u32
 }
 
 /// The number of bits that are set in at least one of `W` words each, at most 64.
-pub fn set_in<const W: usize>(a: &[u64; W], b: &[u64; W]) -> u32
+pub fn union_in<const W: usize>(a: &[u64; W], b: &[u64; W]) -> u32
     requires { W ≤ 64 }
     ensures value { result ≡ union_of (bits_in 64 a.now) (bits_in 64 b.now) }
     ensures bound { result ≤ 64 * W }
@@ -75,21 +75,21 @@ fn differing_fours(a: &[u64], b: &[u64]) -> u32
 }
 
 /// The number of bits that are set in at least one of as many words each, fewer than 2^26.
-pub fn set_bits(a: &[u64], b: &[u64]) -> u32
+pub fn union_bits(a: &[u64], b: &[u64]) -> u32
     requires same { length a.now ≡ length b.now }
     requires few { length a.now < 2 ^ 26 }
     ensures { result ≡ union_of (bits_in 64 a.now) (bits_in 64 b.now) }
 {
     match a.len() {
-        1 => set_exactly::<1>(a, b),
-        2 => set_exactly::<2>(a, b),
-        4 => set_exactly::<4>(a, b),
-        _ => set_fours(a, b),
+        1 => union_exactly::<1>(a, b),
+        2 => union_exactly::<2>(a, b),
+        4 => union_exactly::<4>(a, b),
+        _ => union_fours(a, b),
     }
 }
 
 // Exactly `W` words each.
-fn set_exactly<const W: usize>(a: &[u64], b: &[u64]) -> u32
+fn union_exactly<const W: usize>(a: &[u64], b: &[u64]) -> u32
     requires some { 0 < W }
     requires few { W ≤ 64 }
     requires left { length a.now ≡ W }
@@ -98,11 +98,11 @@ fn set_exactly<const W: usize>(a: &[u64], b: &[u64]) -> u32
 {
     let (fronts, _) = a.as_chunks::<W>();
     let (others, _) = b.as_chunks::<W>();
-    set_in::<W>(&fronts[0], &others[0])
+    union_in::<W>(&fronts[0], &others[0])
 }
 
 // Four words at a time, and then one at a time.
-fn set_fours(a: &[u64], b: &[u64]) -> u32
+fn union_fours(a: &[u64], b: &[u64]) -> u32
     requires same { length a.now ≡ length b.now }
     requires few { length a.now < 2 ^ 26 }
     ensures { result ≡ union_of (bits_in 64 a.now) (bits_in 64 b.now) }
@@ -111,7 +111,7 @@ fn set_fours(a: &[u64], b: &[u64]) -> u32
     let (others, after) = b.as_chunks::<4>();
     let mut total = 0;
     'fours: for i in 0..fronts.len() {
-        total += set_in::<4>(&fronts[i], &others[i]);
+        total += union_in::<4>(&fronts[i], &others[i]);
     }
     'ones: for i in 0..rest.len() {
         total += (rest[i] | after[i]).count_ones();

@@ -10,6 +10,6 @@ mod measures;
 mod tests;
 mod ticks;
 
-pub use crate::counts::{differing_bits, differing_in, set_bits, set_in};
+pub use crate::counts::{differing_bits, differing_in, union_bits, union_in};
 pub use crate::measures::distance;
 pub use crate::ticks::Steps;

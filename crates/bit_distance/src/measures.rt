@@ -4,7 +4,7 @@ ghost use Rattle.std.specs.Prelude.{◌≡◌, ℕ, ◌+◌, ◌-◌, ◌^◌, �
 ghost use Rattle.row_types.specs.Bits.{hamming_of, union_of};
 ghost use Rattle.row_types.specs.Hits.{distance_of, fraction_of};
 
-use crate::counts::{differing_bits, set_bits};
+use crate::counts::{differing_bits, union_bits};
 use crate::ticks::Steps;
 use row_types::{BitVector, Distance, Metric};
 use std::sync::ledger::Ledger;
@@ -24,7 +24,7 @@ pub fn distance<L: Ledger>(
     steps.tick();
     match metric {
         Metric::Hamming => Distance::Hamming(differing(a, b)),
-        Metric::Jaccard => fraction(differing(a, b), set(a, b)),
+        Metric::Jaccard => fraction(differing(a, b), united(a, b)),
     }
 }
 
@@ -39,13 +39,13 @@ fn differing(a: &BitVector, b: &BitVector) -> u32
 }
 
 // The bits that are set in at least one of two vectors.
-fn set(a: &BitVector, b: &BitVector) -> u32
+fn united(a: &BitVector, b: &BitVector) -> u32
     requires { length a.now ≡ length b.now }
     ensures { result ≡ union_of a.now b.now }
 {
     let ours = a.words();
     let theirs = b.words();
-    set_bits(ours, theirs)
+    union_bits(ours, theirs)
 }
 
 // The fraction of these parts, and 0/1 in place of a fraction of nothing.

@@ -1,6 +1,6 @@
 use Rattle.std.proofs.Common.{◌≡◌, ◌+◌, ◌*◌, ◌/◌, ◌≤◌, length, drop}
 use Rattle.row_types.specs.Bits.{bits_in, union_of}
-use Rattle.bit_distance.proofs.counts.set_fours.Given as goal
+use Rattle.bit_distance.proofs.counts.union_fours.Given as goal
 
 abbrev pub invariant-fours : goal.invariant-fours
 invariant-fours l = record {

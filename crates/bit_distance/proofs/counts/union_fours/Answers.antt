@@ -1,8 +1,8 @@
 use Rattle.std.proofs.Common.{◌≡◌, ℕ, List, [], ◌+◌, ◌*◌, ◌/◌, ◌%◌, ◌^◌, ◌<◌, length, drop, get_or, bit_or, ap₂, ap, refl, sym, ◌∙◌, arith, rules}
 use Rattle.std.specs.Simd.{first_chunks}
 use Rattle.row_types.specs.Bits.{either, union_of, bits_in}
-use Rattle.bit_distance.proofs.BitCounts.{count_few, set_at, set_chunk, or_makes}
-use Rattle.bit_distance.proofs.counts.set_fours.Goals as goal
+use Rattle.bit_distance.proofs.BitCounts.{count_few, union_at, union_chunk, or_makes}
+use Rattle.bit_distance.proofs.counts.union_fours.Goals as goal
 
 pub fours-preserved : goal.fours-preserved
 fours-preserved c =
@@ -10,12 +10,12 @@ fours-preserved c =
     let front : c.as_chunks.result.0.now ≡ first_chunks 4 (length c.args.a.now / 4) c.args.a.now = c.as_chunks.ensures.front in
     let other : c.as_chunks-2.result.0.now ≡ first_chunks 4 (length c.args.b.now / 4) c.args.b.now = c.as_chunks-2.ensures.front in
     let level : c.as_chunks-2.result.0.now ≡ first_chunks 4 (length c.args.a.now / 4) c.args.b.now = other ∙ ap (λ n. first_chunks 4 (n / 4) c.args.b.now) (sym c.requires.same) in
-    let more = set_chunk c.args.a.now c.args.b.now (get_or c.as_chunks.result.0.now c.fours.i []) (get_or c.as_chunks-2.result.0.now c.fours.i []) c.fours.i (length c.args.a.now / 4) c.requires.same refl below
+    let more = union_chunk c.args.a.now c.args.b.now (get_or c.as_chunks.result.0.now c.fours.i []) (get_or c.as_chunks-2.result.0.now c.fours.i []) c.fours.i (length c.args.a.now / 4) c.requires.same refl below
     (ap (λ (t : List (List ℕ)). get_or t c.fours.i []) front) (ap (λ (t : List (List ℕ)). get_or t c.fours.i []) level) in
-    let counted = c.set_in-total.ensures.value in
+    let counted = c.union_in-total.ensures.value in
     record {
       total = omega (arith, more, counted, c.fours.invariant.total);
-      bound = omega (arith, c.set_in-total.ensures.bound);
+      bound = omega (arith, c.union_in-total.ensures.bound);
     }
 
 pub ones-init : goal.ones-init
@@ -45,6 +45,6 @@ ones-preserved c =
     let too : length c.as_chunks-2.result.1.now ≡ length c.args.b.now % 4 = c.as_chunks-2.ensures.back_len in
     let there : c.ones.i < length c.as_chunks-2.result.1.now = omega (arith, short, too, ap (λ n. n % 4) c.requires.same) in
     record {
-      total = omega (arith, set_at c.as_chunks.result.1.now c.as_chunks-2.result.1.now c.ones.i c.ones-test.true there left right, c.ones.invariant.total);
+      total = omega (arith, union_at c.as_chunks.result.1.now c.as_chunks-2.result.1.now c.ones.i c.ones-test.true there left right, c.ones.invariant.total);
       bound = omega (arith, count_few either bit_or or_makes (get_or c.as_chunks.result.1.now c.ones.i 0) (get_or c.as_chunks-2.result.1.now c.ones.i 0) left right);
     }

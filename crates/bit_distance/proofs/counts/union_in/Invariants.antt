@@ -1,6 +1,6 @@
 use Rattle.std.proofs.Common.{◌≡◌, ◌+◌, ◌*◌, ◌≤◌, drop}
 use Rattle.row_types.specs.Bits.{bits_in, union_of}
-use Rattle.bit_distance.proofs.counts.set_in.Given as goal
+use Rattle.bit_distance.proofs.counts.union_in.Given as goal
 
 abbrev pub invariant-words : goal.invariant-words
 invariant-words g l = record {
