@@ -1,6 +1,7 @@
 -- The line that shows an answer: compact JSON, its members in the order of their bytes, and a line feed.
-use Rattle.std.specs.Prelude.{ℕ, List, [], ◌∷◌, ◌++◌, map, codes}
+use Rattle.std.specs.Prelude.{◌≡◌, Some, ℕ, List, [], ◌∷◌, ◌++◌, map, codes}
 use Rattle.serde_json.specs.Data.{unsigned, Data, boolean, number, string, array, object, Items, no_items, item, Members, no_members, member}
+use Rattle.serde_json.specs.Read.{read}
 use Rattle.serde_json.specs.Find.{of_integer}
 use Rattle.serde_json.specs.View.{items_of}
 use Rattle.serde_json.specs.Written.{compact_text}
@@ -76,3 +77,7 @@ answer_data line (answers.Refused reason) = answered (codes "refused") (numbered
 -- the text of the line that answers input line `line`
 abbrev pub text_of : ℕ → Answer → List ℕ
 text_of line answer = compact_text (answer_data line answer) ++ 10 ∷ []
+
+-- a line that JSON reads as this value, but for its line feed
+abbrev pub Shows : List ℕ → Data → Type 0
+Shows text d = (front : List ℕ) × (text ≡ front ++ 10 ∷ []) × (read front ≡ Some d)
