@@ -12,4 +12,4 @@ mod slow;
 pub use crate::laws::stability;
 pub use crate::logs::{Entry, Write};
 pub use crate::queries::{Plan, Query};
-pub use crate::slow::{live_at, scan_at};
+pub use crate::slow::{apply, live_at, scan_at};

@@ -1,5 +1,8 @@
 //! Writes, and the log of them.
 
+ghost use Rattle.std.specs.Prelude.{◌≡◌};
+ghost use Rattle.log_model.specs.Logs.{key_of};
+
 use hybrid_time::Timestamp;
 use row_types::{Key, Row};
 
@@ -12,6 +15,19 @@ pub enum Write {
     Upsert(Row),
     /// Takes the row of the key away.
     Delete(Key),
+}
+
+impl Write {
+    /// The key of the row that the write changes.
+    pub fn key(&self) -> Key
+        ensures { result.0 ≡ key_of self.now }
+    {
+        match self {
+            Write::Insert(row) => row.key,
+            Write::Upsert(row) => row.key,
+            Write::Delete(key) => *key,
+        }
+    }
 }
 
 /// A write at its timestamp.

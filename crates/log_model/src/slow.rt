@@ -1,6 +1,6 @@
 //! The live rows and the hits of a search, computed from the log alone.
 
-ghost use Rattle.std.specs.Prelude.{◌≡◌, length, map, OnOk, IfOk};
+ghost use Rattle.std.specs.Prelude.{◌≡◌, length, map, OnOk, OnErr, IfOk};
 ghost use Rattle.std.specs.List.{AllByRecursion};
 ghost use Rattle.std.specs.Ordering.{int_cmp};
 ghost use Rattle.std.specs.BTreeMap.{insert_entry};
@@ -18,16 +18,19 @@ use std::collections::BTreeMap;
 
 /// Sets the row of its key.
 fn set(alloc: Global, rows: &mut BTreeMap<i64, Row>, row: &Row) -> Result<(), Memory>
-    ensures { OnOk result (rows.new.entries ≡ insert_entry int_cmp rows.old.entries row.now.key.0 row.now) }
+    ensures ok { OnOk result (rows.new.entries ≡ insert_entry int_cmp rows.old.entries row.now.key.0 row.now) }
+    ensures err { OnErr result (rows.new.entries ≡ rows.old.entries) }
 {
     let copy = row.copy(alloc)?;
     rows.insert(row.key.0, copy)?;
     Ok(())
 }
 
-/// Applies a write to the live rows, which stand by their keys.
-fn apply(alloc: Global, rows: &mut BTreeMap<i64, Row>, write: &Write) -> Result<(), Memory>
-    ensures { OnOk result ((m : Rows) → fin.entries m ≡ rows.old.entries → fin.entries (applied m write.now) ≡ rows.new.entries) }
+/// Applies a write to live rows, which stand by their keys; a row that it brings is copied. An `Err`
+/// leaves the rows as they were.
+pub fn apply(alloc: Global, rows: &mut BTreeMap<i64, Row>, write: &Write) -> Result<(), Memory>
+    ensures ok { OnOk result ((m : Rows) → fin.entries m ≡ rows.old.entries → fin.entries (applied m write.now) ≡ rows.new.entries) }
+    ensures err { OnErr result (rows.new.entries ≡ rows.old.entries) }
 {
     match write {
         Write::Insert(row) => {

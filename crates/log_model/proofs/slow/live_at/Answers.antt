@@ -9,7 +9,7 @@ entries-init c = subst (IsReached c.args.log.now c.args.ts.0 0) (sym c.new-rows.
 pub entries-preserved : goal.entries-preserved
 entries-preserved c = elim c.if-entry-ts.branch [
   | then-entry-ts+in_ok-apply w ↦ subst (λ m. IsReached c.args.log.now c.args.ts.0 (c.entries.entry-index + 1) m.entries) (sym w.rows-is)
-      (applied_one _ _ _ _ _ c.entry-item.result c.entries-test.true c.entry-item.is w.if-entry-ts.true c.entries.invariant w.in_ok-apply.ensures)
+      (applied_one _ _ _ _ _ c.entry-item.result c.entries-test.true c.entry-item.is w.if-entry-ts.true c.entries.invariant w.in_ok-apply.ensures.ok)
   | else-entry-ts w ↦ subst (λ m. IsReached c.args.log.now c.args.ts.0 (c.entries.entry-index + 1) m.entries) (sym w.rows-is)
       (passed _ _ _ _ c.entry-item.result c.entries-test.true c.entry-item.is w.if-entry-ts.false c.entries.invariant)
 ]

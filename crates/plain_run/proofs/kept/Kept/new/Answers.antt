@@ -1,0 +1,11 @@
+use Rattle.std.proofs.Common.{sym, ap, ◌∙◌}
+use Rattle.std.specs.FinMap as fin
+use Rattle.log_model.specs.Logs.{rows_of}
+use Rattle.log_model.proofs.LogLaws.{rows_of-after}
+use Rattle.log_model.proofs.Reached.{entries-empty}
+use Rattle.plain_run.proofs.kept.Kept.new.Goals as goal
+
+pub invariant_of-result : goal.invariant_of-result
+invariant_of-result c = record {
+  same = ap (λ log. fin.entries (rows_of log)) c.new.ensures.items ∙ ap fin.entries (rows_of-after _) ∙ entries-empty ∙ sym c.new-2.ensures.empty;
+}

@@ -1,0 +1,22 @@
+use Rattle.std.proofs.Common.{◌≤◌, ◌<◌, subst, sym, ◌∙◌, arith}
+use Rattle.legal_output.specs.Outputs.{start_of}
+use Rattle.plain_run.specs.Accounts.{plain_of}
+use Rattle.plain_run.proofs.Served.{IsSnapshot, snapshot_facts, guarantee_most, served_search}
+use Rattle.plain_run.proofs.runs.PlainRun.search.Goals as goal
+
+pub snapshot-ts-requires-clause-most : goal.snapshot-ts-requires-clause-most
+snapshot-ts-requires-clause-most c =
+    let low : c.args.self.now.mine ≤ c.args.now = omega (arith, c.args.self.now.written, c.requires.later) in
+    subst (λ least. least ≤ c.args.now) (sym c.guarantee-least.ensures) (guarantee_most c.args.level c.args.now c.args.self.now.mine low)
+
+pub returns-clause-serves : goal.returns-clause-serves
+returns-clause-serves c = λ wait.
+    let low : c.args.self.now.mine ≤ c.args.now = omega (arith, c.args.self.now.written, c.requires.later) in
+    let least : c.guarantee-least.result.0 ≤ c.args.now = subst (λ g. g ≤ c.args.now) (sym c.guarantee-least.ensures) (guarantee_most c.args.level c.args.now c.args.self.now.mine low) in
+    let before : c.args.self.now.tick ≤ c.args.now = omega (arith, c.args.self.now.reached, c.requires.later) in
+    let some : 0 < c.args.collection.now.channels = omega (arith, c.requires.run.channels) in
+    let taken : IsSnapshot c.args.self.now.tick c.guarantee-least.result.0 c.args.now c.snapshot-ts.result.0 c.snapshot-ts.result.1 =
+    snapshot_facts c.args.self.now.tick c.guarantee-least.result.0 c.args.now c.snapshot-ts.result.0 c.snapshot-ts.result.1 before least c.snapshot-ts.ensures.last c.snapshot-ts.ensures.drawn in
+    served_search (start_of c.args.collection.now) (plain_of c.args.self.now) c.args.now c.guarantee-least.result.0 c.snapshot-ts.result.0 c.snapshot-ts.result.1
+    c.args.query.now c.args.level wait c.of.result c.args.self.now.reached c.requires.later some c.guarantee-least.ensures
+    taken.guaranteed taken.known taken.drawn taken.within (c.of.ensures ∙ c.in_ok-hits.ensures)
