@@ -1,0 +1,28 @@
+-- The fields that the formats share, and what is said of values in a row.
+use Rattle.std.specs.Prelude.{ℕ, ◌^◌, ◌+◌, List, [], ◌∷◌, Option, None, Some, nat_lt, nat_le, if◌then◌else◌}
+use Rattle.std.specs.Int.{w64}
+use Rattle.std.specs.Str.{bytes_eq}
+use Rattle.binlog_format.specs.declared.refusals.FormatKind.{FormatKind}
+use Rattle.binlog_format.specs.declared.refusals.FormatKind.TheVariants.{Magic, Range, Order}
+use Rattle.binlog_format.specs.Reading.{Item, bytes, number, checked, unless}
+
+-- each value has what it is to have in the state that the values before it leave
+abbrev pub InTurn : {S A : Type 0} → (S → A → Type 0) → (S → A → S) → S → List A → Type 0
+InTurn Has after state [] = Unit {0}
+InTurn Has after state (x ∷ xs) = Has state x × InTurn Has after (after state x) xs
+
+-- the eight bytes with which each object of a format begins
+abbrev pub magic : List ℕ → Item (List ℕ)
+magic name = checked (bytes 8) (unless Magic (bytes_eq name))
+
+-- the number of a segment
+abbrev pub segment_number : Item ℕ
+segment_number = checked (number w64) (unless Range (λ n. nat_lt n (2 ^ 60)))
+
+-- the least number that may follow one, where numbers rise strictly
+abbrev pub above : ℕ → ℕ → ℕ
+above least n = n + 1
+
+-- refuses a number that does not rise
+abbrev pub rising : ℕ → ℕ → Option FormatKind
+rising least = unless Order (λ n. nat_le least n)
