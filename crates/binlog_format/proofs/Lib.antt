@@ -1,3 +1,4 @@
-pub mod Loop
+pub mod ReadLoop
 pub mod FieldLaws
 pub mod DeleteLaws
+pub mod WriteLoop

@@ -7,6 +7,7 @@ ghost use Rattle.binlog_format.specs.Deletes.{SpellsDeletes, IsDeleteLog, mark_b
 
 use crate::fields::{bad, between, magic, segment_number, short, u32_of, u64_of};
 use crate::objects::DeleteLog;
+use crate::puts::{put_u32, put_u64};
 use crate::refusals::{FormatError, FormatKind};
 use byte_fields::Reader;
 use hybrid_time::Timestamp;
@@ -45,9 +46,9 @@ pub fn write_delete(alloc: Global, log: &DeleteLog) -> Result<Vec<u8>, Memory>
     let marks = log.marks.as_slice();
     let mut out = Vec::with_capacity(alloc, 28 + 12 * marks.len())?;
     out.extend_from_slice(&NAME)?;
-    out.extend_from_slice(&log.segment.to_le_bytes())?;
-    out.extend_from_slice(&log.applied.to_le_bytes())?;
-    out.extend_from_slice(&(marks.len() as u32).to_le_bytes())?;
+    put_u64(&mut out, log.segment)?;
+    put_u64(&mut out, log.applied)?;
+    put_u32(&mut out, marks.len() as u32)?;
     put_marks(&mut out, marks)?;
     Ok(out)
 }
@@ -57,9 +58,17 @@ fn put_marks(out: &mut Vec<u8>, marks: &[(u32, Timestamp)]) -> Result<(), Memory
     ensures fit { OnOk result (AllByRecursion (λ mark. mark.1.0 < 2 ^ 64) marks.now) }
 {
     for mark in marks {
-        out.extend_from_slice(&mark.0.to_le_bytes())?;
-        out.extend_from_slice(&mark.1.0.to_le_bytes())?;
+        put_mark(out, mark)?;
     }
+    Ok(())
+}
+
+fn put_mark(out: &mut Vec<u8>, mark: &(u32, Timestamp)) -> Result<(), Memory>
+    ensures bytes { OnOk result (out.new.items ≡ out.old.items ++ mark_bytes mark.now) }
+    ensures fit { OnOk result (mark.now.1.0 < 2 ^ 64) }
+{
+    put_u32(out, mark.0)?;
+    put_u64(out, mark.1.0)?;
     Ok(())
 }
 

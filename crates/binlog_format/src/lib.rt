@@ -9,6 +9,7 @@
 mod deletes;
 mod fields;
 mod objects;
+mod puts;
 mod refusals;
 
 pub use crate::deletes::{delete_spellings_are_apart, read_delete, write_delete};

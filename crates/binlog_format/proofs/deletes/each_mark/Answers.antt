@@ -2,7 +2,7 @@ use Rattle.std.proofs.Common.{◌≡◌, ◌++◌, ◌∷◌, [], ◌-◌, ◌�
 use Rattle.std.proofs.lemmas.Result.{err_from_is_err_and}
 use Rattle.binlog_format.specs.Reading.{items}
 use Rattle.binlog_format.specs.Deletes.{after_mark, mark_at}
-use Rattle.binlog_format.proofs.Loop.{continues, fails, is_done}
+use Rattle.binlog_format.proofs.ReadLoop.{continues, fails, is_done}
 use Rattle.binlog_format.proofs.DeleteLaws.{delete_field}
 use Rattle.binlog_format.proofs.deletes.each_mark.Goals as goal
 

@@ -1,7 +1,7 @@
 use Rattle.std.proofs.Common.{◌-◌}
 use Rattle.binlog_format.specs.Reading.{items}
 use Rattle.binlog_format.specs.Deletes.{after_mark, mark_at}
-use Rattle.binlog_format.proofs.Loop.{Continues}
+use Rattle.binlog_format.proofs.ReadLoop.{Continues}
 use Rattle.binlog_format.proofs.deletes.each_mark.Given as goal
 
 abbrev pub invariant-loop : goal.invariant-loop
