@@ -15,3 +15,6 @@ mod refusals;
 pub use crate::deletes::{delete_spellings_are_apart, read_delete, write_delete};
 pub use crate::objects::DeleteLog;
 pub use crate::refusals::{FormatError, FormatKind};
+
+#[cfg(test)]
+mod tests;
