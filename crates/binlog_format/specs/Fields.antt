@@ -1,10 +1,10 @@
 -- The fields that the formats share, and what is said of values in a row.
-use Rattle.std.specs.Prelude.{ℕ, ◌^◌, ◌+◌, List, [], ◌∷◌, Option, None, Some, nat_lt, nat_le, if◌then◌else◌}
+use Rattle.std.specs.Prelude.{ℕ, ◌^◌, ◌+◌, List, [], ◌∷◌, Option, None, Some, nat_lt, nat_le, slice_index}
 use Rattle.std.specs.Int.{w64}
 use Rattle.std.specs.Str.{bytes_eq}
 use Rattle.binlog_format.specs.declared.refusals.FormatKind.{FormatKind}
 use Rattle.binlog_format.specs.declared.refusals.FormatKind.TheVariants.{Magic, Range, Order}
-use Rattle.binlog_format.specs.Reading.{Item, bytes, number, checked, unless}
+use Rattle.binlog_format.specs.Reading.{Item, ◌>>=◌, gives, bytes, number, checked, unless, items}
 
 -- each value has what it is to have in the state that the values before it leave
 abbrev pub InTurn : {S A : Type 0} → (S → A → Type 0) → (S → A → S) → S → List A → Type 0
@@ -18,6 +18,16 @@ magic name = checked (bytes 8) (unless Magic (bytes_eq name))
 -- the number of a segment
 abbrev pub segment_number : Item ℕ
 segment_number = checked (number w64) (unless Range (λ n. nat_lt n (2 ^ 60)))
+
+-- one byte
+abbrev pub byte : Item ℕ
+byte = do
+  found ← bytes 1
+  gives (slice_index found 0)
+
+-- n items of one form
+abbrev pub run : {A : Type 0} → ℕ → Item A → Item (List A)
+run n item = items (λ (state : Unit {0}). item) (λ state x. state) n tt
 
 -- the least number that may follow one, where numbers rise strictly
 abbrev pub above : ℕ → ℕ → ℕ

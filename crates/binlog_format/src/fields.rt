@@ -4,7 +4,7 @@ ghost use Rattle.std.specs.Prelude.{◌≡◌, ◌≤◌, length};
 ghost use Rattle.std.specs.Int.{w32, w64};
 ghost use Rattle.byte_fields.specs.Unread.{end_of};
 ghost use Rattle.binlog_format.specs.Reading.{Gives, GivesAs, number, bytes, between};
-ghost use Rattle.binlog_format.specs.Fields.{magic, segment_number};
+ghost use Rattle.binlog_format.specs.Fields.{magic, segment_number, byte};
 
 use crate::refusals::{FormatError, FormatKind};
 use byte_fields::Reader;
@@ -93,4 +93,12 @@ pub(crate) fn segment_number(reader: &mut Reader<'_>) -> Result<u64, FormatError
         return Err(bad(at, FormatKind::Range));
     }
     Ok(n)
+}
+
+/// One byte.
+pub(crate) fn byte_of(reader: &mut Reader<'_>) -> Result<u8, FormatError>
+    ensures { Gives result reader.new (byte reader.old) }
+{
+    let found = take(reader, 1)?;
+    Ok(found[0])
 }

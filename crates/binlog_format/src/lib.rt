@@ -8,12 +8,14 @@
 
 mod deletes;
 mod fields;
+mod inserts;
 mod objects;
 mod puts;
 mod refusals;
 
 pub use crate::deletes::{delete_spellings_are_apart, read_delete, write_delete};
-pub use crate::objects::DeleteLog;
+pub use crate::inserts::read_insert;
+pub use crate::objects::{Column, DeleteLog, InsertLog};
 pub use crate::refusals::{FormatError, FormatKind};
 
 #[cfg(test)]

@@ -1,0 +1,6 @@
+//! The insert log as bytes.
+
+mod columns;
+mod reading;
+
+pub use crate::inserts::reading::read_insert;
