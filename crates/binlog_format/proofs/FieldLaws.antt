@@ -15,7 +15,7 @@ use Rattle.binlog_format.specs.declared.refusals.FormatKind.TheVariants.{Short, 
 use Rattle.binlog_format.specs.declared.refusals.FormatError.{FormatError}
 use Rattle.binlog_format.specs.declared.refusals.FormatError.TheVariants as errors
 use Rattle.binlog_format.specs.Reading.{Fault, Item, go_on, ◌>>=◌, gives, whole, bytes, number, refuse_at, checked, unless, between, items, last, everything, Answers, IsReadAs}
-use Rattle.binlog_format.specs.Fields.{InTurn, magic, segment_number}
+use Rattle.binlog_format.specs.Fields.{InTurn, magic, segment_number, byte, run}
 
 abbrev pub IsBytes : List ℕ → Type 0
 IsBytes bs = (i : ℕ) → get_or bs i 0 < 256
@@ -138,6 +138,13 @@ pub field_same : {A : Type 0} {item : Item A} {text : A → List ℕ} {P Q : A �
 field_same one there here = record {
   takes = λ u x v fits e. let t = one.takes u x v fits e in (t.0, there x t.1);
   again = λ x h. one.again x (here x h);
+}
+
+-- the same field, with its text in other words
+pub field_text : {A : Type 0} {item : Item A} {text other : A → List ℕ} {P : A → Type 0} → IsField item text P → ((x : A) → P x → text x ≡ other x) → IsField item other P
+field_text {A} {item} {text} {other} one same = record {
+  takes = λ u x v fits e. let t = one.takes u x v fits e in (subst (λ (bs : List ℕ). Takes u.rest bs v.rest) (same x t.1) t.0, t.1);
+  again = λ x h place rest. subst (λ (bs : List ℕ). (q : ℕ) × (item (from place (bs ++ rest)) ≡ Ok (x, from q rest))) (same x h) (one.again x h place rest);
 }
 
 guard_ok : {A : Type 0} (b : Bool) (d : Fault) (r : Result A Fault) (y : A) → cond b (Err d) r ≡ Ok y → (b ≡ false) × (r ≡ Ok y)
@@ -315,7 +322,21 @@ pub turn_with : {S A : Type 0} (P : S → A → Type 0) (Q : A → Type 0) (R : 
 turn_with P Q R after f s [] h k = tt
 turn_with P Q R after f s (x ∷ xs) h k = (f s x h.0 k.0, turn_with P Q R after f (after s x) xs h.1 k.1)
 
+pub turn_from_all : {S A : Type 0} (P : A → Type 0) (after : S → A → S) (s : S) (xs : List A) → AllByRecursion P xs → InTurn (λ state. P) after s xs
+turn_from_all P after s [] h = tt
+turn_from_all P after s (x ∷ xs) h = (h.0, turn_from_all P after (after s x) xs h.1)
+
+pub not_true : (b : Bool) → (b ≡ true → ⊥) → b ≡ false
+not_true true h = absurd (h refl)
+not_true false h = refl
+
 -- the length of texts of one length
+pub flat_map_each : {A : Type 0} (text : A → List ℕ) (P : A → Type 0) (k : ℕ) → ((x : A) → P x → length (text x) ≡ k) → (xs : List A) → AllByRecursion P xs → length (flat_map text xs) ≡ k * length xs
+flat_map_each text P k each [] h = sym (mul-zero k)
+flat_map_each text P k each (x ∷ xs) h =
+    let n = flat_map_each text P k each xs h.1 in
+    length-append (text x) (flat_map text xs) ∙ (rw (each x h.0, n) (omega arith))
+
 pub flat_map_long : {A : Type 0} (text : A → List ℕ) (k : ℕ) → ((x : A) → length (text x) ≡ k) → (xs : List A) → length (flat_map text xs) ≡ k * length xs
 flat_map_long text k each [] = sym (mul-zero k)
 flat_map_long text k each (x ∷ xs) =
@@ -346,3 +367,27 @@ pub between_field : (least most : ℕ) → most < 2 ^ 32 → IsField (between le
 between_field least most small = unless_field Range (λ n. leb least n && leb n most) (number_field w32 (2 ^ 32) wide32)
     (λ n h e. (grind (arith, nat_tests), grind (arith, nat_tests)))
     (λ n h. (omega arith, grind (arith, nat_tests)))
+
+-- items in a row whose rule is on the state, and whose size is not
+pub sized_field : {S A : Type 0} {item : S → Item A} {after : S → A → S} {text : A → List ℕ} (R : S → A → Type 0) (Q : A → Type 0) → ((s : S) → IsField (item s) text (λ x. R s x × Q x)) → (n : ℕ) (s : S)
+    → IsField (items item after n s) (flat_map text) (λ xs. (length xs ≡ n) × InTurn R after s xs × AllByRecursion Q xs)
+sized_field {S} {A} {item} {after} R Q each n s = field_same (items_field {item = item} {after = after} {P = λ t x. R t x × Q x} each n s)
+    (λ xs h. (h.0, turn_weaker (λ t x. R t x × Q x) R after (λ t x k. k.0) s xs h.1, all_from_turn (λ t x. R t x × Q x) Q after (λ t x k. k.1) s xs h.1))
+    (λ xs h. (h.0, turn_with R Q (λ t x. R t x × Q x) after (λ t x k l. (k, l)) s xs h.1 h.2))
+
+pub run_field : {A : Type 0} {item : Item A} {text : A → List ℕ} {P : A → Type 0} → IsField item text P → (n : ℕ) → IsField (run n item) (flat_map text) (λ xs. (length xs ≡ n) × AllByRecursion P xs)
+run_field {A} {item} {text} {P} one n = field_same (items_field {S = Unit {0}} {item = λ state. item} {after = λ state x. state} {P = λ state x. P x} (λ state. one) n tt)
+    (λ xs h. (h.0, all_from_turn (λ (state : Unit {0}) x. P x) P (λ state x. state) (λ state x k. k) tt xs h.1))
+    (λ xs h. (h.0, turn_from_all P (λ (state : Unit {0}) x. state) tt xs h.1))
+
+one_byte : (found : List ℕ) → length found ≡ 1 → get_or found 0 0 ∷ [] ≡ found
+one_byte [] h = absurd (omega arith)
+one_byte (b ∷ []) h = refl
+one_byte (b ∷ c ∷ bs) h = absurd (omega arith)
+
+single_fits : (b : ℕ) → b < 256 → IsBytes (b ∷ [])
+single_fits b h zero = h
+single_fits b h (suc i) = omega arith
+
+pub byte_field : IsField byte (λ b. b ∷ []) (λ b. b < 256)
+byte_field = field_as (λ found. get_or found 0 0) (λ b. b ∷ []) (bytes_field 1) (λ found h. (one_byte found h.0, h.1 0)) (λ b h. ((refl, single_fits b h), refl))

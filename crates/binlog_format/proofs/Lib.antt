@@ -2,3 +2,4 @@ pub mod ReadLoop
 pub mod FieldLaws
 pub mod DeleteLaws
 pub mod WriteLoop
+pub mod InsertLaws

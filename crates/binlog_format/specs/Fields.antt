@@ -1,9 +1,9 @@
 -- The fields that the formats share, and what is said of values in a row.
-use Rattle.std.specs.Prelude.{ℕ, ◌^◌, ◌+◌, List, [], ◌∷◌, Option, None, Some, nat_lt, nat_le, slice_index}
+use Rattle.std.specs.Prelude.{ℕ, ◌^◌, ◌+◌, List, [], ◌∷◌, Option, None, Some, nat_lt, slice_index}
 use Rattle.std.specs.Int.{w64}
 use Rattle.std.specs.Str.{bytes_eq}
 use Rattle.binlog_format.specs.declared.refusals.FormatKind.{FormatKind}
-use Rattle.binlog_format.specs.declared.refusals.FormatKind.TheVariants.{Magic, Range, Order}
+use Rattle.binlog_format.specs.declared.refusals.FormatKind.TheVariants.{Magic, Range}
 use Rattle.binlog_format.specs.Reading.{Item, ◌>>=◌, gives, bytes, number, checked, unless, items}
 
 -- each value has what it is to have in the state that the values before it leave
@@ -28,11 +28,3 @@ byte = do
 -- n items of one form
 abbrev pub run : {A : Type 0} → ℕ → Item A → Item (List A)
 run n item = items (λ (state : Unit {0}). item) (λ state x. state) n tt
-
--- the least number that may follow one, where numbers rise strictly
-abbrev pub above : ℕ → ℕ → ℕ
-above least n = n + 1
-
--- refuses a number that does not rise
-abbrev pub rising : ℕ → ℕ → Option FormatKind
-rising least = unless Order (λ n. nat_le least n)

@@ -1,8 +1,8 @@
 -- The insert log: its one spelling, and reading it.
-use Rattle.std.specs.Prelude.{◌≡◌, ℕ, ℤ, zero, suc, ◌*◌, ◌/◌, ◌%◌, ◌+◌, ◌^◌, ◌<◌, ◌≤◌, ◌==◌, ◌&&◌, Bool, cond, List, [], ◌∷◌, ◌++◌, length, codes, nat_le}
+use Rattle.std.specs.Prelude.{◌≡◌, ℕ, ℤ, zero, suc, ◌*◌, ◌/◌, ◌%◌, ◌+◌, ◌^◌, ◌<◌, ◌≤◌, ◌==◌, ◌&&◌, Bool, true, cond, List, [], ◌∷◌, ◌++◌, length, codes, nat_lt, nat_le, Option, Some, None, FitsSigned, slice_index}
 use Rattle.std.specs.Int.{w32, w64, to_le_bytes, cast_signed, cast_unsigned}
 use Rattle.std.specs.List.{AllByRecursion, concat, flat_map}
-use Rattle.std.specs.Str.{IsUtf8, is_utf8}
+use Rattle.std.specs.Str.{is_utf8}
 use Rattle.hybrid_time.specs.declared.times.Timestamp.{Timestamp}
 use Rattle.row_types.specs.declared.rows.Key.{Key}
 use Rattle.row_types.specs.Bits.{bits_in, bytes_of, IsDimension}
@@ -11,7 +11,7 @@ use Rattle.binlog_format.specs.declared.objects.Column.TheVariants.{Ints, Bools,
 use Rattle.binlog_format.specs.declared.objects.InsertLog.{InsertLog}
 use Rattle.binlog_format.specs.declared.refusals.FormatKind.TheVariants.{Range, Order, Utf8}
 use Rattle.binlog_format.specs.Reading.{Item, ◌>>=◌, gives, whole, bytes, number, checked, unless, between, items}
-use Rattle.binlog_format.specs.Fields.{InTurn, magic, segment_number, byte, run, above}
+use Rattle.binlog_format.specs.Fields.{InTurn, magic, segment_number, byte, run}
 
 -- ---- the spelling
 
@@ -64,6 +64,14 @@ insert_bytes log = concat (
 
 -- ---- the rules
 
+-- a position above the one before it
+abbrev pub IsAbove : Option ℕ → ℕ → Type 0
+IsAbove None position = Unit {0}
+IsAbove (Some before) position = before < position
+
+abbrev pub after_position : Option ℕ → ℕ → Option ℕ
+after_position before position = Some position
+
 -- a timestamp that is not below the one before it
 abbrev pub IsStampFrom : ℕ → Timestamp → Type 0
 IsStampFrom least ts = least ≤ ts.0
@@ -71,11 +79,21 @@ IsStampFrom least ts = least ≤ ts.0
 abbrev pub after_stamp : ℕ → Timestamp → ℕ
 after_stamp least ts = ts.0
 
--- a value for each of n rows, and no text of more than 1,024 bytes
+-- a text of at most 1,024 bytes
+abbrev pub IsShort : List ℕ → Type 0
+IsShort text = length text ≤ 1024
+
+-- a column with no longer text
+abbrev pub HasShortTexts : Column → Type 0
+HasShortTexts (Ints ints) = Unit {0}
+HasShortTexts (Bools bools) = Unit {0}
+HasShortTexts (Texts texts) = AllByRecursion IsShort texts
+
+-- a value for each of n rows, and no longer text
 abbrev pub IsColumn : ℕ → Column → Type 0
 IsColumn n (Ints ints) = length ints ≡ n
 IsColumn n (Bools bools) = length bools ≡ n
-IsColumn n (Texts texts) = (length texts ≡ n) × AllByRecursion (λ text. length text ≤ 1024) texts
+IsColumn n (Texts texts) = (length texts ≡ n) × AllByRecursion IsShort texts
 
 -- the rules of an insert log: its positions rise strictly, its timestamps do not fall, and each row has
 -- a key, a vector of the dimension and a value in each column
@@ -85,7 +103,7 @@ pub record IsInsertLog (log : InsertLog) : Type 0 where
   pub some_rows : 1 ≤ length log.positions
   pub rows : length log.positions ≤ 65536
   pub width : length log.columns ≤ 16
-  pub positions : InTurn ◌≤◌ above 0 log.positions
+  pub positions : InTurn IsAbove after_position None log.positions
   pub a_stamp_each : length log.stamps ≡ length log.positions
   pub stamps : InTurn IsStampFrom after_stamp 0 log.stamps
   pub a_key_each : length log.keys ≡ length log.positions
@@ -93,20 +111,21 @@ pub record IsInsertLog (log : InsertLog) : Type 0 where
   pub vectors : AllByRecursion (λ vector. length vector ≡ log.dim) log.vectors
   pub columns : AllByRecursion (IsColumn (length log.positions)) log.columns
 
--- a signed number that has eight bytes
-abbrev pub FitsInt : ℤ → Type 0
-FitsInt n = cast_signed w64 (cast_unsigned w64 n) ≡ n
+-- bytes that are UTF-8
+pub record IsText (text : List ℕ) : Type 0 where
+  pub utf8 : is_utf8 text ≡ true
+  pub bytes : (i : ℕ) → slice_index text i < 256
 
 -- each number fits its field, and each text is UTF-8
 abbrev pub ColumnFits : Column → Type 0
-ColumnFits (Ints ints) = AllByRecursion FitsInt ints
+ColumnFits (Ints ints) = AllByRecursion (FitsSigned w64) ints
 ColumnFits (Bools bools) = Unit {0}
-ColumnFits (Texts texts) = AllByRecursion (λ text. is_utf8 text ≡ true) texts
+ColumnFits (Texts texts) = AllByRecursion IsText texts
 
 pub record InsertsFit (log : InsertLog) : Type 0 where
   pub positions : AllByRecursion (λ position. position < 2 ^ 64) log.positions
   pub stamps : AllByRecursion (λ ts. ts.0 < 2 ^ 64) log.stamps
-  pub keys : AllByRecursion (λ key. FitsInt key.0) log.keys
+  pub keys : AllByRecursion (λ key. FitsSigned w64 key.0) log.keys
   pub columns : AllByRecursion ColumnFits log.columns
 
 -- the bytes are the spelling of this insert log
@@ -123,16 +142,19 @@ is_dimension dim = dim % 8 == 0 && nat_le 8 dim && nat_le dim 4096
 abbrev pub dimension : Item ℕ
 dimension = checked (number w32) (unless Range is_dimension)
 
--- a number of eight bytes that is not below the least
-abbrev pub number_from : ℕ → Item ℕ
-number_from least = checked (number w64) (unless Order (λ n. nat_le least n))
+abbrev pub is_above : Option ℕ → ℕ → Bool
+is_above None position = true
+is_above (Some before) position = nat_lt before position
+
+unfoldable pub position_at : Option ℕ → Item ℕ
+position_at before = checked (number w64) (unless Order (is_above before))
 
 unfoldable pub positions_at : ℕ → Item (List ℕ)
-positions_at n = whole (8 * n) (items number_from above n 0)
+positions_at n = whole (8 * n) (items position_at after_position n None)
 
 unfoldable pub stamp_at : ℕ → Item Timestamp
 stamp_at least = do
-  ts ← number_from least
+  ts ← checked (number w64) (unless Order (λ n. nat_le least n))
   gives (record { 0 = ts })
 
 unfoldable pub stamps_at : ℕ → Item (List Timestamp)

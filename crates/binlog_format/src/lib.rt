@@ -14,7 +14,7 @@ mod puts;
 mod refusals;
 
 pub use crate::deletes::{delete_spellings_are_apart, read_delete, write_delete};
-pub use crate::inserts::read_insert;
+pub use crate::inserts::{insert_spellings_are_apart, read_insert, write_insert};
 pub use crate::objects::{Column, DeleteLog, InsertLog};
 pub use crate::refusals::{FormatError, FormatKind};
 

@@ -1,6 +1,7 @@
 //! Reading a column.
 
-ghost use Rattle.std.specs.Prelude.{◌≡◌, ◌≤◌};
+ghost use Rattle.std.specs.Prelude.{◌≡◌, true, false, IfSome, IfNone};
+ghost use Rattle.std.specs.Str.{is_utf8};
 ghost use Rattle.binlog_format.specs.Reading.{Gives, items};
 ghost use Rattle.binlog_format.specs.Fields.{run};
 ghost use Rattle.binlog_format.specs.Inserts.{int_at, ints_at, bool_at, bools_at, text_at, column_at, values_at};
@@ -114,8 +115,18 @@ fn text_of(alloc: Global, reader: &mut Reader<'_>) -> Result<Text, FormatError>
     let len = between(reader, 0, TEXT)?;
     let at = reader.place();
     let found = take(reader, len as usize)?;
-    match std::str::from_utf8(found) {
-        Ok(text) => Ok(Text::copied(alloc, text)?),
-        Err(_) => Err(bad(at, FormatKind::Utf8)),
+    match utf8(found) {
+        Some(text) => Ok(Text::copied(alloc, text)?),
+        None => Err(bad(at, FormatKind::Utf8)),
+    }
+}
+
+fn utf8(bytes: &[u8]) -> Option<&str>
+    ensures some { IfSome result (λ text. (text.now ≡ bytes.now) × (is_utf8 bytes.now ≡ true)) }
+    ensures none { IfNone result (is_utf8 bytes.now ≡ false) }
+{
+    match std::str::from_utf8(bytes) {
+        Ok(text) => Some(text),
+        Err(_) => None,
     }
 }

@@ -1,10 +1,10 @@
 //! Reading an insert log.
 
-ghost use Rattle.std.specs.Prelude.{◌≡◌, ◌<◌, ◌≤◌, ◌^◌, ◌++◌, ℕ, List, [], IfOk, OnOk};
+ghost use Rattle.std.specs.Prelude.{◌≡◌, ◌≤◌, ◌++◌, ℕ, List, [], None, IfOk};
 ghost use Rattle.row_types.specs.Bits.{IsDimension};
 ghost use Rattle.binlog_format.specs.Reading.{Gives, Answers, IsReadAs, everything, items};
-ghost use Rattle.binlog_format.specs.Fields.{above, run};
-ghost use Rattle.binlog_format.specs.Inserts.{SpellsInserts, insert_log, dimension, number_from, positions_at, stamp_at, after_stamp, stamps_at, key_at, keys_at, vector_at, vectors_at, column_at};
+ghost use Rattle.binlog_format.specs.Fields.{run};
+ghost use Rattle.binlog_format.specs.Inserts.{SpellsInserts, insert_log, dimension, position_at, after_position, positions_at, stamp_at, after_stamp, stamps_at, key_at, keys_at, vector_at, vectors_at, column_at};
 
 use crate::fields::{bad, between, magic, segment_number, short, take, u32_of, u64_of};
 use crate::inserts::columns::{column_of, int_of};
@@ -16,7 +16,7 @@ use row_types::{BitVector, Key, List};
 use std::alloc::Global;
 
 /// The name with which an insert log begins.
-const NAME: [u8; 8] = *b"MANUINS1";
+pub(crate) const NAME: [u8; 8] = *b"MANUINS1";
 
 /// The most rows of a segment.
 const ROWS: u32 = 65_536;
@@ -35,6 +35,12 @@ pub fn read_insert(alloc: Global, bytes: &[u8]) -> Result<InsertLog, FormatError
 {
     all(alloc, bytes)
 }
+
+/// A spelling ends where it ends: no insert log is spelled by the beginning of the spelling of
+/// another.
+pub fn insert_spellings_are_apart()
+    ensures { (a b : InsertLog) (bytes rest : List ℕ) → SpellsInserts bytes a → SpellsInserts (bytes ++ rest) b → (rest ≡ []) × (a ≡ b) }
+{}
 
 fn all(alloc: Global, bytes: &[u8]) -> Result<InsertLog, FormatError>
     ensures { Answers result (everything insert_log bytes.now) }
@@ -84,18 +90,6 @@ fn dimension(reader: &mut Reader<'_>) -> Result<u32, FormatError>
     Ok(dim)
 }
 
-// A number of eight bytes that is not below the least.
-fn number_from(reader: &mut Reader<'_>, least: u64) -> Result<u64, FormatError>
-    ensures { Gives result reader.new (number_from least reader.old) }
-{
-    let at = reader.place();
-    let n = u64_of(reader)?;
-    if n < least {
-        return Err(bad(at, FormatKind::Order));
-    }
-    Ok(n)
-}
-
 #[tactic(auto, unfolding(crate::specs::Inserts::positions_at))]
 fn positions_of(
     alloc: Global,
@@ -110,22 +104,33 @@ fn positions_of(
     each_position(alloc, reader, count)
 }
 
-// A number above all of eight bytes follows none, so the last position may be the greatest.
 fn each_position(
     alloc: Global,
     reader: &mut Reader<'_>,
     count: u32,
 ) -> Result<List<u64>, FormatError>
-    ensures { Gives result reader.new (items number_from above count 0 reader.old) }
+    ensures { Gives result reader.new (items position_at after_position count None reader.old) }
 {
     let mut found = Vec::with_capacity(alloc, count as usize)?;
-    let mut least = 0;
+    let mut before = None;
     for _ in 0..count {
-        let item = number_from(reader, least)?;
-        least = item + 1;
+        let item = position_of(reader, before)?;
+        before = Some(item);
         found.push(item)?;
     }
     Ok(List::of(found))
+}
+
+#[tactic(auto, unfolding(crate::specs::Inserts::position_at))]
+fn position_of(reader: &mut Reader<'_>, before: Option<u64>) -> Result<u64, FormatError>
+    ensures { Gives result reader.new (position_at before reader.old) }
+{
+    let at = reader.place();
+    let position = u64_of(reader)?;
+    match before {
+        Some(before) if position <= before => Err(bad(at, FormatKind::Order)),
+        _ => Ok(position),
+    }
 }
 
 #[tactic(auto, unfolding(crate::specs::Inserts::stamps_at))]
@@ -163,7 +168,11 @@ fn each_stamp(
 fn stamp_of(reader: &mut Reader<'_>, least: u64) -> Result<Timestamp, FormatError>
     ensures { Gives result reader.new (stamp_at least reader.old) }
 {
-    let ts = number_from(reader, least)?;
+    let at = reader.place();
+    let ts = u64_of(reader)?;
+    if ts < least {
+        return Err(bad(at, FormatKind::Order));
+    }
     Ok(Timestamp(ts))
 }
 
