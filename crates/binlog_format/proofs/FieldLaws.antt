@@ -161,6 +161,13 @@ whole_field {A} {item} {text} {P} n one long = record {
       (a.0, rw enough a.1);
 }
 
+allowed : (kind : FormatKind) (b : Bool) → cond b None (Some kind) ≡ None → b ≡ true
+allowed kind true e = refl
+allowed kind false e = absurd cc
+
+passes : (kind : FormatKind) (b : Bool) → b ≡ true → cond b None (Some kind) ≡ None
+passes kind b h = rw h refl
+
 -- a field that a rule may refuse
 passed : {A : Type 0} (place : ℕ) (o : Option FormatKind) (x y : A) (u v : Unread) → refuse_at place o x u ≡ Ok (y, v) → (o ≡ None) × (x ≡ y) × (u ≡ v)
 passed place None x y u v e = (refl, same_value x y u v e, same_rest x y u v e)
@@ -173,6 +180,19 @@ checked_field {A} {item} {text} {P} rule one = record {
       let p = passed u.place (rule b.0) b.0 x b.1 v b.3 in
       let t = one.takes u b.0 b.1 fits b.2 in
       subst (λ (w : Unread). Takes u.rest (text x) w.rest × (P x × (rule x ≡ None))) p.2 (subst (λ (z : A). Takes u.rest (text z) b.1.rest × (P z × (rule z ≡ None))) p.1 (t.0, (t.1, p.0)));
+  again = λ x h place rest.
+      let a = one.again x h.0 place rest in
+      (a.0, rw (a.1, h.1) refl);
+}
+
+-- a field whose value a rule may refuse at the place behind it
+pub accepted_field : {A : Type 0} {item : Item A} {text : A → List ℕ} {P : A → Type 0} (kind : FormatKind) (test : A → Bool) → IsField item text P → IsField (item >>= λ x. checked (gives x) (unless kind test)) text (λ x. P x × (test x ≡ true))
+accepted_field {A} {item} {text} {P} kind test one = record {
+  takes = λ u x v fits e.
+      let b = bind_ok (item u) (λ z. checked (gives z) (unless kind test)) x v e in
+      let p = passed b.1.place (unless kind test b.0) b.0 x b.1 v b.3 in
+      let t = one.takes u b.0 b.1 fits b.2 in
+      subst (λ (w : Unread). Takes u.rest (text x) w.rest × (P x × (test x ≡ true))) p.2 (subst (λ (z : A). Takes u.rest (text z) b.1.rest × (P z × (test z ≡ true))) p.1 (t.0, (t.1, allowed kind (test b.0) p.0)));
   again = λ x h place rest.
       let a = one.again x h.0 place rest in
       (a.0, rw (a.1, h.1) refl);
@@ -344,13 +364,6 @@ flat_map_long text k each (x ∷ xs) =
     length-append (text x) (flat_map text xs) ∙ (rw (each x, n) (omega arith))
 
 -- ---- fields that the formats share
-
-allowed : (kind : FormatKind) (b : Bool) → cond b None (Some kind) ≡ None → b ≡ true
-allowed kind true e = refl
-allowed kind false e = absurd cc
-
-passes : (kind : FormatKind) (b : Bool) → b ≡ true → cond b None (Some kind) ≡ None
-passes kind b h = rw h refl
 
 pub unless_field : {A : Type 0} {item : Item A} {text : A → List ℕ} {P Q : A → Type 0} (kind : FormatKind) (test : A → Bool) → IsField item text P → ((x : A) → P x → test x ≡ true → Q x) → ((x : A) → Q x → P x × (test x ≡ true)) → IsField (checked item (unless kind test)) text Q
 unless_field kind test one there here = field_same (checked_field (unless kind test) one) (λ x h. there x h.0 (allowed kind (test x) h.1)) (λ x h. let k = here x h in (k.0, passes kind (test x) k.1))

@@ -9,13 +9,15 @@
 mod deletes;
 mod fields;
 mod inserts;
+mod lists;
 mod objects;
 mod puts;
 mod refusals;
 
 pub use crate::deletes::{delete_spellings_are_apart, read_delete, write_delete};
 pub use crate::inserts::{insert_spellings_are_apart, read_insert, write_insert};
-pub use crate::objects::{Column, DeleteLog, InsertLog};
+pub use crate::lists::{list_spellings_are_apart, read_lists, write_lists};
+pub use crate::objects::{Column, DeleteLog, InsertLog, ListFile};
 pub use crate::refusals::{FormatError, FormatKind};
 
 #[cfg(test)]

@@ -40,3 +40,15 @@ pub struct InsertLog {
     /// Columns; a text has at most 1,024 bytes.
     pub columns: List<Column>,
 }
+
+/// The rows of a segment in lists, of which each row stands in exactly one: 1 to 1,024 lists of 1 to
+/// 65,536 rows together.
+#[derive(Debug, Drop)]
+pub struct ListFile {
+    /// The number of the segment, below 2^60.
+    pub segment: u64,
+    /// The version of the centroids by which the rows were sorted into lists.
+    pub version: u32,
+    /// Row numbers, strictly rising in each list.
+    pub lists: List<List<u32>>,
+}
