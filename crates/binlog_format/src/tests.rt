@@ -1,4 +1,3 @@
-use super::*;
-use std::test::*;
-
 mod deletes;
+mod inserts;
+mod lists;

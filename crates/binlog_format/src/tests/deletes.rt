@@ -1,6 +1,5 @@
 use super::super::*;
 use hybrid_time::Timestamp;
-use row_types::List;
 use std::test::*;
 
 /// Segment 0, applied up to 5, row 0 dead at 3.
@@ -14,20 +13,71 @@ const BYTES: [u8; 40] = [
 ];
 
 #[test]
-fn a_delete_log_is_written_and_read_back(rt: HostRuntime) -> Result<(), Fail> {
+fn a_delete_log_is_read_and_written_again(rt: HostRuntime) -> Result<(), Fail> {
     let alloc = rt.alloc();
-    let log = DeleteLog {
-        segment: 0,
-        applied: 5,
-        marks: List::of(vec![in alloc; (0, Timestamp(3))]?),
-    };
-    let bytes = write_delete(alloc, &log).ok().ok_or("memory")?;
-    assert_eq!(rt; bytes.as_slice(), BYTES.as_slice());
-    let read = read_delete(alloc, &bytes)
+    let log = read_delete(alloc, &BYTES)
         .ok()
         .ok_or("the bytes spell a delete log")?;
-    assert_eq!(rt; read.segment, 0);
-    assert_eq!(rt; read.applied, 5);
-    assert_eq!(rt; read.marks.as_slice(), [(0, Timestamp(3))].as_slice());
+    assert_eq!(rt; log.segment, 0);
+    assert_eq!(rt; log.applied, 5);
+    assert_eq!(rt; log.marks.as_slice(), [(0, Timestamp(3))].as_slice());
+    let bytes = write_delete(alloc, &log).ok().ok_or("memory")?;
+    assert_eq!(rt; bytes.as_slice(), BYTES.as_slice());
+    Ok(())
+}
+
+#[test]
+fn a_delete_log_is_refused_at_its_first_wrong_item(rt: HostRuntime) {
+    let alloc = rt.alloc();
+    for (place, byte, at, kind) in [
+        (0, 0, 0, FormatKind::Magic),
+        (15, 0x10, 8, FormatKind::Range), // segment 2^60
+        (26, 2, 24, FormatKind::Range), // 131,073 marks
+        (24, 2, 40, FormatKind::Short), // two marks
+        (30, 1, 28, FormatKind::Range), // row 65,536
+    ] {
+        let mut bytes = BYTES;
+        if let Some(slot) = bytes.get_mut(place) {
+            *slot = byte;
+        }
+        assert_eq!(rt;
+            read_delete(alloc, &bytes).err(),
+            Some(FormatError::Bad { at, kind }),
+            "at {place}"
+        );
+    }
+}
+
+#[test]
+fn a_delete_log_that_is_cut_goes_on_or_falls_is_refused(rt: HostRuntime) -> Result<(), Fail> {
+    let alloc = rt.alloc();
+    let mut bytes = Vec::from_slice(alloc, &BYTES)?;
+    assert_eq!(rt;
+        read_delete(alloc, &bytes[..39]).err(),
+        Some(FormatError::Bad {
+            at: 39,
+            kind: FormatKind::Short
+        })
+    );
+    bytes.push(0)?;
+    assert_eq!(rt;
+        read_delete(alloc, &bytes).err(),
+        Some(FormatError::Bad {
+            at: 40,
+            kind: FormatKind::Extra
+        })
+    );
+    let mut two = Vec::from_slice(alloc, &BYTES)?;
+    two.extend_from_slice(&BYTES[28..])?;
+    if let Some(slot) = two.get_mut(24) {
+        *slot = 2;
+    }
+    assert_eq!(rt;
+        read_delete(alloc, &two).err(),
+        Some(FormatError::Bad {
+            at: 40,
+            kind: FormatKind::Order
+        })
+    );
     Ok(())
 }
