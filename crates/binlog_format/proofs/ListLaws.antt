@@ -5,14 +5,14 @@ use Rattle.std.specs.Int.{w32, w64, to_le_bytes}
 use Rattle.std.specs.List.{AllByRecursion, concat, flat_map}
 use Rattle.std.proofs.lemmas.Bool.{ltb-true, lt-ltb, ltb-false, leb-true, leb-false, le-leb, eqb-true, eq-eqb, lt-leb, le-ltb}
 use Rattle.std.proofs.lemmas.Bool.Decides.{nat_tests}
-use Rattle.std.proofs.lemmas.List.{length-append}
+use Rattle.std.proofs.lemmas.List.{length-append, append-nil}
 use Rattle.binlog_format.specs.declared.objects.ListFile.{ListFile}
 use Rattle.binlog_format.specs.declared.refusals.FormatError.{FormatError}
 use Rattle.binlog_format.specs.declared.refusals.FormatKind.{FormatKind}
 use Rattle.binlog_format.specs.declared.refusals.FormatKind.TheVariants.{Range, Order, Sum}
 use Rattle.binlog_format.specs.Reading.{Item, everything, Answers, IsReadAs, number, checked, gives, items, whole}
 use Rattle.binlog_format.specs.Fields.{InTurn}
-use Rattle.binlog_format.specs.Lists.{list_bytes, list_file_bytes, stands_in, Within, IsRow, after_row, IsList, joined, IsListFile, SpellsLists, length_at, left_after, lengths_at, row_rule, row_at, Filling, first, rest, list_at, after_list, lists_at, list_file}
+use Rattle.binlog_format.specs.Lists.{list_bytes, list_file_bytes, stands_in, Within, IsRow, after_row, IsList, joined, IsListFile, SpellsLists, length_at, left_after, lengths_at, row_rule, row_at, Filling, first, rest, list_at, after_list, lists_at, list_file, length_bytes}
 use Rattle.binlog_format.proofs.ListReading.{sum_cons}
 use Rattle.binlog_format.proofs.FieldLaws.{IsField, IsBytes, field_then, field_same, gives_field, unless_field, checked_field, number_field, whole_field, items_field, magic_field, segment_field, between_field, wide32, wide64, flat_map_long, small_bytes, accepted_field, everything_takes, everything_again, apart, read_back}
 
@@ -165,3 +165,17 @@ is_only bs r file given s = read_back r file (everything list_file bs) given (ap
 
 pub lists_apart : (a b : ListFile) (bs rest : List ℕ) → SpellsLists bs a → SpellsLists (bs ++ rest) b → (rest ≡ []) × (a ≡ b)
 lists_apart a b bs rest x y = let t = apart lists_file_field a b rest (x.rules, x.fit) (y.rules, y.fit) (ap (λ (z : List ℕ). z ++ rest) (sym x.spelling) ∙ y.spelling) in (t.1, t.0)
+
+-- the lengths of lists, written list by list
+pub lengths_text : (lists : List (List ℕ)) → flat_map length_bytes lists ≡ flat_map (to_le_bytes w32) (map length lists)
+lengths_text [] = refl
+lengths_text (x ∷ xs) = ap (λ (bs : List ℕ). length_bytes x ++ bs) (lengths_text xs)
+
+-- the fields of a list file, written one after another
+pub written : (file : ListFile) (lists : List (List ℕ)) (rows : ℕ) (a b c d e f g h : List ℕ) → lists ≡ file.lists → rows ≡ length (concat lists) → a ≡ [] → b ≡ a ++ codes "MANULST1" → c ≡ b ++ to_le_bytes w64 file.segment → d ≡ c ++ to_le_bytes w32 file.version
+    → e ≡ d ++ to_le_bytes w32 (length lists) → f ≡ e ++ to_le_bytes w32 rows → g ≡ f ++ flat_map length_bytes lists → h ≡ g ++ flat_map list_bytes lists → h ≡ list_file_bytes file
+written file lists rows a b c d e f g h hl hr ha hb hc hd he hf hg hh =
+    let header : List ℕ = codes "MANULST1" ++ to_le_bytes w64 file.segment ++ to_le_bytes w32 file.version ++ to_le_bytes w32 (length file.lists) ++ to_le_bytes w32 (length (concat file.lists)) in
+    let ends : flat_map length_bytes file.lists ++ flat_map list_bytes file.lists ≡ flat_map (to_le_bytes w32) (map length file.lists) ++ (flat_map list_bytes file.lists ++ []) =
+    ap (λ (bs : List ℕ). bs ++ flat_map list_bytes file.lists) (lengths_text file.lists) ∙ ap (λ (bs : List ℕ). flat_map (to_le_bytes w32) (map length file.lists) ++ bs) (sym (append-nil (flat_map list_bytes file.lists))) in
+    rw (hh, hg, hf, he, hd, hc, hb, ha, hr, hl) (ap (λ (bs : List ℕ). header ++ bs) ends)
