@@ -1,16 +1,16 @@
 -- A delete log is read exactly where it is spelled.
-use Rattle.std.proofs.Common.{◌≡◌, ℕ, ◌*◌, ◌+◌, ◌^◌, ◌<◌, ◌≤◌, Bool, true, false, cond, ltb, leb, List, [], ◌∷◌, ◌++◌, length, Option, Some, None, Result, Ok, Err, refl, sym, ap, subst, ◌∙◌, arith}
+use Rattle.std.proofs.Common.{◌≡◌, ℕ, ◌*◌, ◌^◌, ◌<◌, ◌≤◌, List, [], ◌++◌, length, None, Result, Ok, Err, refl, sym, ap, ◌∙◌, arith}
 use Rattle.std.specs.Prelude.{codes, IfOk}
-use Rattle.std.specs.Int.{w32, w64, to_le_bytes}
-use Rattle.std.specs.List.{AllByRecursion, concat, flat_map}
+use Rattle.std.specs.Int.{w32, w64}
+use Rattle.std.specs.List.{flat_map}
 use Rattle.std.proofs.lemmas.Bool.Decides.{nat_tests}
 use Rattle.hybrid_time.specs.declared.times.Timestamp.{Timestamp}
 use Rattle.binlog_format.specs.declared.objects.DeleteLog.{DeleteLog}
 use Rattle.binlog_format.specs.declared.refusals.FormatError.{FormatError}
-use Rattle.binlog_format.specs.Reading.{Item, everything, Answers, IsReadAs, number, checked, gives, items, whole}
+use Rattle.binlog_format.specs.Reading.{everything, Answers, IsReadAs}
 use Rattle.binlog_format.specs.Fields.{InTurn}
 use Rattle.binlog_format.specs.Deletes.{mark_bytes, after_mark, IsMarkFrom, row_rule, mark_at, marks_at, delete_log, delete_bytes, IsDeleteLog, DeletesFit, SpellsDeletes}
-use Rattle.binlog_format.proofs.FieldLaws.{IsField, IsBytes, field_then, field_as, field_same, gives_field, checked_field, number_field, whole_field, items_field, magic_field, segment_field, between_field, wide32, wide64, flat_map_long, all_from_turn, turn_weaker, turn_with, small_bytes, everything_takes, everything_again, apart, read_back}
+use Rattle.binlog_format.proofs.FieldLaws.{IsField, IsBytes, field_then, field_as, gives_field, checked_field, number_field, whole_field, items_field, magic_field, segment_field, between_field, wide32, wide64, flat_map_long, all_from_turn, turn_weaker, turn_with, small_bytes, everything_takes, everything_again, apart, read_back}
 
 -- a mark, with the sizes of its numbers
 abbrev FitsMark : ℕ → ℕ × Timestamp → Type 0

@@ -1,10 +1,10 @@
 -- An insert log is read exactly where it is spelled.
-use Rattle.std.proofs.Common.{◌≡◌, ℕ, ℤ, zero, suc, ◌*◌, ◌/◌, ◌%◌, ◌+◌, ◌^◌, ◌<◌, ◌≤◌, Bool, true, false, cond, eqb, ltb, leb, ◌&&◌, List, [], ◌∷◌, ◌++◌, length, Option, Some, None, Result, Ok, Err, refl, sym, ap, subst, ◌∙◌, arith, SFits, Fits}
+use Rattle.std.proofs.Common.{◌≡◌, ℕ, ℤ, zero, suc, ◌*◌, ◌/◌, ◌%◌, ◌^◌, ◌<◌, ◌≤◌, Bool, true, false, cond, eqb, leb, List, [], ◌∷◌, ◌++◌, length, Option, Some, None, Result, Ok, Err, refl, sym, ap, subst, ◌∙◌, arith, SFits, Fits}
 use Rattle.std.proofs.Math.Nat.{mul_comm}
 use Rattle.std.specs.Prelude.{codes, IfOk}
 use Rattle.std.specs.Int.{w32, w64, to_le_bytes, cast_signed, cast_unsigned}
 use Rattle.std.specs.Str.{is_utf8}
-use Rattle.std.specs.List.{AllByRecursion, concat, flat_map}
+use Rattle.std.specs.List.{AllByRecursion, flat_map}
 use Rattle.std.proofs.lemmas.Bool.{ltb-true, lt-ltb, leb-true, le-leb}
 use Rattle.std.proofs.lemmas.Bool.Decides.{nat_tests}
 use Rattle.std.proofs.Math.Facts.{of_z-to_z, to_z-of_z, sfits_to_z, Fits-of_z}
@@ -17,8 +17,8 @@ use Rattle.binlog_format.specs.declared.objects.Column.TheVariants.{Ints, Bools,
 use Rattle.binlog_format.specs.declared.objects.InsertLog.{InsertLog}
 use Rattle.binlog_format.specs.declared.refusals.FormatError.{FormatError}
 use Rattle.binlog_format.specs.declared.refusals.FormatKind.TheVariants.{Range, Order, Utf8}
-use Rattle.binlog_format.specs.Reading.{Item, everything, Answers, IsReadAs, number, checked, gives, items, whole}
-use Rattle.binlog_format.specs.Fields.{InTurn, run}
+use Rattle.binlog_format.specs.Reading.{everything, Answers, IsReadAs}
+use Rattle.binlog_format.specs.Fields.{InTurn}
 use Rattle.binlog_format.specs.Inserts.{stamp_bytes, int_bytes, key_bytes, bool_bytes, text_bytes, kind_byte, values, column_bytes, insert_bytes, IsAbove, after_position, IsStampFrom, after_stamp, IsShort, HasShortTexts, IsColumn, IsInsertLog, IsText, ColumnFits, InsertsFit, SpellsInserts, is_dimension, dimension, is_above, position_at, positions_at, stamp_at, stamps_at, int_at, key_at, keys_at, vector_at, vectors_at, ints_at, bool_at, bools_at, text_at, texts_at, values_at, column_at, insert_log}
 use Rattle.binlog_format.proofs.FieldLaws.{IsField, IsBytes, field_then, field_as, field_same, field_text, gives_field, unless_field, bytes_field, number_field, whole_field, sized_field, run_field, byte_field, magic_field, segment_field, between_field, wide32, wide64, flat_map_long, flat_map_each, small_bytes, everything_takes, everything_again, apart, read_back}
 

@@ -1,20 +1,18 @@
 -- A list file is read exactly where it is spelled.
-use Rattle.std.proofs.Common.{◌≡◌, ℕ, zero, suc, ◌*◌, ◌+◌, ◌-◌, ◌^◌, ◌<◌, ◌≤◌, Bool, true, false, cond, eqb, ltb, leb, ◌&&◌, ◌||◌, List, [], ◌∷◌, ◌++◌, length, map, Option, Some, None, Result, Ok, Err, refl, sym, ap, subst, ◌∙◌, arith, inl, inr}
+use Rattle.std.proofs.Common.{◌≡◌, ℕ, suc, ◌*◌, ◌+◌, ◌-◌, ◌^◌, ◌<◌, ◌≤◌, Bool, true, false, cond, eqb, ltb, leb, ◌||◌, List, [], ◌∷◌, ◌++◌, length, map, Some, None, Result, Ok, Err, refl, sym, ap, subst, ◌∙◌, arith}
 use Rattle.std.specs.Prelude.{codes, IfOk, sum}
 use Rattle.std.specs.Int.{w32, w64, to_le_bytes}
-use Rattle.std.specs.List.{AllByRecursion, concat, flat_map}
-use Rattle.std.proofs.lemmas.Bool.{ltb-true, lt-ltb, ltb-false, leb-true, leb-false, le-leb, eqb-true, eq-eqb, lt-leb, le-ltb}
-use Rattle.std.proofs.lemmas.Bool.Decides.{nat_tests}
+use Rattle.std.specs.List.{concat, flat_map}
+use Rattle.std.proofs.lemmas.Bool.{ltb-false, leb-true, leb-false, le-leb, eqb-true, eq-eqb, lt-leb, le-ltb}
 use Rattle.std.proofs.lemmas.List.{length-append, append-nil}
 use Rattle.binlog_format.specs.declared.objects.ListFile.{ListFile}
 use Rattle.binlog_format.specs.declared.refusals.FormatError.{FormatError}
-use Rattle.binlog_format.specs.declared.refusals.FormatKind.{FormatKind}
 use Rattle.binlog_format.specs.declared.refusals.FormatKind.TheVariants.{Range, Order, Sum}
-use Rattle.binlog_format.specs.Reading.{Item, everything, Answers, IsReadAs, number, checked, gives, items, whole}
+use Rattle.binlog_format.specs.Reading.{everything, Answers, IsReadAs}
 use Rattle.binlog_format.specs.Fields.{InTurn}
 use Rattle.binlog_format.specs.Lists.{list_bytes, list_file_bytes, stands_in, Within, IsRow, after_row, IsList, joined, IsListFile, SpellsLists, length_at, left_after, lengths_at, row_rule, row_at, Filling, first, rest, list_at, after_list, lists_at, list_file, length_bytes}
 use Rattle.binlog_format.proofs.ListReading.{sum_cons}
-use Rattle.binlog_format.proofs.FieldLaws.{IsField, IsBytes, field_then, field_same, gives_field, unless_field, checked_field, number_field, whole_field, items_field, magic_field, segment_field, between_field, wide32, wide64, flat_map_long, small_bytes, accepted_field, everything_takes, everything_again, apart, read_back}
+use Rattle.binlog_format.proofs.FieldLaws.{IsField, IsBytes, field_then, field_same, gives_field, unless_field, checked_field, number_field, whole_field, items_field, magic_field, segment_field, between_field, wide32, flat_map_long, small_bytes, accepted_field, everything_takes, everything_again, apart, read_back}
 
 -- ---- lengths
 

@@ -1,8 +1,8 @@
 -- Reading the row numbers of lists, with a mark for each row that stood before.
-use Rattle.std.proofs.Common.{◌≡◌, ℕ, zero, suc, ◌-◌, ◌+◌, ◌*◌, ◌≤◌, ◌<◌, Bool, true, false, not, cond, ltb, leb, ◌&&◌, ◌||◌, List, [], ◌∷◌, ◌++◌, length, get_or, set, take, drop, nat_eq, Option, None, Some, Result, Ok, Err, refl, sym, ap, subst, ◌∙◌, append_assoc, arith, inl, inr, add-one, zero-add, replicate}
+use Rattle.std.proofs.Common.{◌≡◌, ℕ, ◌-◌, ◌+◌, ◌≤◌, ◌<◌, Bool, true, false, not, cond, ltb, ◌||◌, List, [], ◌∷◌, ◌++◌, length, get_or, set, take, drop, nat_eq, Option, None, Some, Result, Ok, Err, refl, sym, ap, subst, ◌∙◌, append_assoc, arith, inl, inr, add-one, zero-add, replicate}
 use Rattle.std.specs.Int.{w32}
 use Rattle.std.specs.Prelude.{sum}
-use Rattle.std.specs.List.{concat, list_any, flat_map, AllByRecursion}
+use Rattle.std.specs.List.{concat, AllByRecursion}
 use Rattle.std.proofs.lemmas.Bool.{cases_lt, cases_eq, ne_eqb, eq-eqb, lt-ltb, le-ltb, le-leb, lt-leb}
 use Rattle.std.proofs.Math.Bool.{or_assoc, or-true}
 use Rattle.std.proofs.Math.Nat.{sub-zero}
@@ -15,8 +15,8 @@ use Rattle.byte_fields.specs.Unread.{Unread}
 use Rattle.binlog_format.specs.declared.refusals.FormatKind.{FormatKind}
 use Rattle.binlog_format.specs.declared.refusals.FormatKind.TheVariants.{Range, Order}
 use Rattle.binlog_format.specs.declared.refusals.FormatError.{FormatError}
-use Rattle.binlog_format.specs.Reading.{Fault, Item, go_on, refuse_at, number, items, Fails}
-use Rattle.binlog_format.specs.Lists.{stands_in, Within, row_rule, row_at, after_row, Filling, first, rest, list_at, after_list, IsSeen, is_free, marked_rule, marked_row, IsShortList}
+use Rattle.binlog_format.specs.Reading.{Fault, go_on, refuse_at, number, items, Fails}
+use Rattle.binlog_format.specs.Lists.{stands_in, row_rule, row_at, after_row, Filling, first, rest, list_at, after_list, IsSeen, marked_rule, marked_row, IsShortList}
 use Rattle.binlog_format.proofs.ReadLoop.{Continues, starts, continues, fails, is_done}
 
 by_mark : (b : Bool) (o : Option FormatKind) → cond (not b) o (Some Range) ≡ cond b (Some Range) o

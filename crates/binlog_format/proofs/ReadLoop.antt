@@ -2,10 +2,9 @@
 use Rattle.std.proofs.Common.{◌≡◌, ℕ, suc, ◌-◌, ◌+◌, ◌≤◌, ◌<◌, List, [], ◌∷◌, ◌++◌, Result, Ok, Err, refl, sym, ap, ◌∙◌, append_assoc, arith}
 use Rattle.std.proofs.lemmas.List.{append-nil}
 use Rattle.byte_fields.specs.Unread.{Unread}
-use Rattle.binlog_format.specs.declared.refusals.FormatKind.{FormatKind}
 use Rattle.binlog_format.specs.declared.refusals.FormatError.{FormatError}
 use Rattle.binlog_format.specs.declared.refusals.FormatError.TheVariants as errors
-use Rattle.binlog_format.specs.Reading.{Fault, Item, go_on, ◌>>=◌, gives, items, Fails}
+use Rattle.binlog_format.specs.Reading.{Fault, Item, go_on, gives, items, Fails}
 
 -- what was read before, and what is still read
 abbrev pub with_front : {A : Type 0} → List A → Result (List A × Unread) Fault → Result (List A × Unread) Fault

@@ -1,8 +1,7 @@
 -- The fields that the formats share, and what is said of values in a row.
-use Rattle.std.specs.Prelude.{ℕ, ◌^◌, ◌+◌, List, [], ◌∷◌, Option, None, Some, nat_lt, slice_index}
+use Rattle.std.specs.Prelude.{ℕ, ◌^◌, List, [], ◌∷◌, nat_lt, slice_index}
 use Rattle.std.specs.Int.{w64}
 use Rattle.std.specs.Str.{bytes_eq}
-use Rattle.binlog_format.specs.declared.refusals.FormatKind.{FormatKind}
 use Rattle.binlog_format.specs.declared.refusals.FormatKind.TheVariants.{Magic, Range}
 use Rattle.binlog_format.specs.Reading.{Item, ◌>>=◌, gives, bytes, number, checked, unless, items}
 

@@ -1,5 +1,5 @@
 -- The list file: its one spelling, and reading it.
-use Rattle.std.specs.Prelude.{◌≡◌, ℕ, zero, suc, ◌*◌, ◌+◌, ◌-◌, ◌^◌, ◌<◌, ◌≤◌, ◌==◌, ◌||◌, Bool, false, not, ◌&&◌, slice_index_or, List, [], ◌∷◌, ◌++◌, length, map, sum, codes, nat_lt, nat_le, nat_eq, Option, Some, None, if◌then◌else◌}
+use Rattle.std.specs.Prelude.{◌≡◌, ℕ, ◌*◌, ◌+◌, ◌-◌, ◌^◌, ◌<◌, ◌≤◌, ◌==◌, ◌||◌, Bool, false, not, ◌&&◌, slice_index_or, List, [], ◌∷◌, ◌++◌, length, map, sum, codes, nat_lt, nat_le, nat_eq, Option, Some, None, if◌then◌else◌}
 use Rattle.std.specs.Int.{w32, w64, to_le_bytes}
 use Rattle.std.specs.List.{concat, flat_map, list_any}
 use Rattle.binlog_format.specs.declared.objects.ListFile.{ListFile}

@@ -273,7 +273,7 @@ fn row_of(reader: &mut Reader<'_>, seen: &[bool], least: u32) -> Result<u32, For
     Ok(row)
 }
 
-// Whether a row is one of those that are marked or not, and is not marked.
+// Whether there is such a row, and it is not marked.
 fn is_free(seen: &[bool], row: usize) -> bool
     ensures { result ≡ is_free seen.now row }
 {

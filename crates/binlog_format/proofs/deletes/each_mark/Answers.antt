@@ -1,9 +1,6 @@
-use Rattle.std.proofs.Common.{◌≡◌, ◌++◌, ◌∷◌, [], ◌-◌, ◌∙◌, ap}
 use Rattle.std.proofs.lemmas.Result.{err_from_is_err_and}
-use Rattle.binlog_format.specs.Reading.{items}
 use Rattle.binlog_format.specs.Deletes.{after_mark, mark_at}
 use Rattle.binlog_format.proofs.ReadLoop.{continues, fails, is_done}
-use Rattle.binlog_format.proofs.DeleteLaws.{delete_field}
 use Rattle.binlog_format.proofs.deletes.each_mark.Goals as goal
 
 pub returns-in_err-mark : goal.returns-in_err-mark

@@ -1,4 +1,4 @@
-use Rattle.std.proofs.Common.{◌≡◌, ◌++◌, ◌<◌, ◌^◌, take}
+use Rattle.std.proofs.Common.{◌<◌, ◌^◌}
 use Rattle.binlog_format.specs.Deletes.{mark_bytes}
 use Rattle.binlog_format.proofs.WriteLoop.{put_more, all_more, put_all, all_of_taken}
 use Rattle.binlog_format.proofs.deletes.put_marks.Goals as goal

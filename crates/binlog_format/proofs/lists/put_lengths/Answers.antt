@@ -1,6 +1,5 @@
-use Rattle.std.proofs.Common.{◌≡◌, ◌++◌, ◌<◌, ◌^◌, take, w32, w64}
 use Rattle.binlog_format.specs.Lists.{length_bytes, IsShortList}
-use Rattle.binlog_format.proofs.WriteLoop.{put_more, all_more, put_all, all_of_taken, all_at}
+use Rattle.binlog_format.proofs.WriteLoop.{put_more, put_all, all_at}
 use Rattle.binlog_format.proofs.lists.put_lengths.Goals as goal
 
 pub put_length-requires : goal.put_length-requires

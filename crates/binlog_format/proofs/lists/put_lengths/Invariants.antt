@@ -1,6 +1,6 @@
-use Rattle.std.proofs.Common.{◌≡◌, ◌++◌, ◌<◌, ◌^◌, take, w32, w64}
-use Rattle.std.specs.List.{flat_map, AllByRecursion}
-use Rattle.binlog_format.specs.Lists.{length_bytes, IsShortList}
+use Rattle.std.proofs.Common.{◌≡◌, ◌++◌, take}
+use Rattle.std.specs.List.{flat_map}
+use Rattle.binlog_format.specs.Lists.{length_bytes}
 use Rattle.binlog_format.proofs.lists.put_lengths.Given as goal
 
 abbrev pub invariant-loop-item : goal.invariant-loop-item

@@ -1,7 +1,6 @@
-use Rattle.std.proofs.Common.{◌≡◌, ◌++◌, ◌<◌, ◌^◌, take, w32, w64}
+use Rattle.std.proofs.Common.{w32}
 use Rattle.std.specs.Int.{to_le_bytes}
-use Rattle.binlog_format.specs.Lists.{list_bytes}
-use Rattle.binlog_format.proofs.WriteLoop.{put_more, all_more, put_all, all_of_taken, all_at}
+use Rattle.binlog_format.proofs.WriteLoop.{put_more, put_all}
 use Rattle.binlog_format.proofs.lists.put_rows.Goals as goal
 
 pub loop-item-preserved : goal.loop-item-preserved

@@ -1,7 +1,6 @@
-use Rattle.std.proofs.Common.{◌≡◌, ◌++◌, ◌<◌, ◌^◌, take, w32, w64}
-use Rattle.std.specs.List.{flat_map, AllByRecursion}
+use Rattle.std.proofs.Common.{◌≡◌, ◌++◌, take, w32}
+use Rattle.std.specs.List.{flat_map}
 use Rattle.std.specs.Int.{to_le_bytes}
-use Rattle.binlog_format.specs.Lists.{list_bytes}
 use Rattle.binlog_format.proofs.lists.put_rows.Given as goal
 
 abbrev pub invariant-loop-item : goal.invariant-loop-item

@@ -1,4 +1,4 @@
-use Rattle.std.proofs.Common.{◌≡◌, ℕ, List, length, ap, ◌∙◌, arith}
+use Rattle.std.proofs.Common.{ℕ, List, length, ap, ◌∙◌, arith}
 use Rattle.binlog_format.proofs.ListReading.{rows_more_of, rows_below}
 use Rattle.binlog_format.proofs.lists.rows_in.Goals as goal
 

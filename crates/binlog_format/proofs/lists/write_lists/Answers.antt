@@ -1,4 +1,4 @@
-use Rattle.std.proofs.Common.{List, ℕ, sym, subst}
+use Rattle.std.proofs.Common.{sym, subst}
 use Rattle.std.specs.List.{AllByRecursion}
 use Rattle.binlog_format.specs.Lists.{IsShortList}
 use Rattle.binlog_format.proofs.ListReading.{short_lists}

@@ -1,6 +1,5 @@
 use Rattle.std.proofs.lemmas.Result.{err_from_is_err_and}
 use Rattle.binlog_format.specs.Inserts.{position_at, after_position}
-use Rattle.std.specs.Prelude.{None}
 use Rattle.binlog_format.proofs.ReadLoop.{continues, fails, is_done}
 use Rattle.binlog_format.proofs.inserts.reading.each_position.Goals as goal
 

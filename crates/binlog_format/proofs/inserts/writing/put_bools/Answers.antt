@@ -1,6 +1,5 @@
-use Rattle.std.proofs.Common.{◌≡◌, ◌++◌, ◌<◌, ◌^◌, take, w32, w64}
 use Rattle.binlog_format.specs.Inserts.{bool_bytes}
-use Rattle.binlog_format.proofs.WriteLoop.{put_more, all_more, put_all, all_of_taken, all_at}
+use Rattle.binlog_format.proofs.WriteLoop.{put_more, put_all}
 use Rattle.binlog_format.proofs.inserts.writing.put_bools.Goals as goal
 
 pub loop-item-preserved : goal.loop-item-preserved

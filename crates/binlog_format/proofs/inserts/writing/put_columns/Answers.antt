@@ -1,4 +1,3 @@
-use Rattle.std.proofs.Common.{◌≡◌, ◌++◌, ◌<◌, ◌^◌, take, w32, w64}
 use Rattle.binlog_format.specs.Inserts.{column_bytes, ColumnFits, HasShortTexts}
 use Rattle.binlog_format.proofs.WriteLoop.{put_more, all_more, put_all, all_of_taken, all_at}
 use Rattle.binlog_format.proofs.inserts.writing.put_columns.Goals as goal

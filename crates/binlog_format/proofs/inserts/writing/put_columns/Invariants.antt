@@ -1,6 +1,6 @@
-use Rattle.std.proofs.Common.{◌≡◌, ◌++◌, ◌<◌, ◌^◌, take, w32, w64}
+use Rattle.std.proofs.Common.{◌≡◌, ◌++◌, take}
 use Rattle.std.specs.List.{flat_map, AllByRecursion}
-use Rattle.binlog_format.specs.Inserts.{column_bytes, ColumnFits, HasShortTexts}
+use Rattle.binlog_format.specs.Inserts.{column_bytes, ColumnFits}
 use Rattle.binlog_format.proofs.inserts.writing.put_columns.Given as goal
 
 abbrev pub invariant-loop-item : goal.invariant-loop-item

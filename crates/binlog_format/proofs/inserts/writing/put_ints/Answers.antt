@@ -1,9 +1,9 @@
-use Rattle.std.proofs.Common.{◌≡◌, ◌++◌, ◌<◌, ◌^◌, take, w32, w64}
+use Rattle.std.proofs.Common.{w64}
 use Rattle.std.specs.Prelude.{FitsSigned}
 use Rattle.binlog_format.specs.Inserts.{int_bytes}
 use Rattle.std.proofs.Common.{SFits, get_or, pos, rules}
 use Rattle.std.proofs.lemmas.Int.{to_z-of_z}
-use Rattle.binlog_format.proofs.WriteLoop.{put_more, all_more, put_all, all_of_taken, all_at}
+use Rattle.binlog_format.proofs.WriteLoop.{put_more, all_more, put_all, all_of_taken}
 use Rattle.binlog_format.proofs.inserts.writing.put_ints.Goals as goal
 
 pub loop-item-preserved : goal.loop-item-preserved

@@ -1,9 +1,7 @@
-use Rattle.std.proofs.Common.{◌≡◌, ◌++◌, ◌<◌, ◌^◌, take, w32, w64}
+use Rattle.std.proofs.Common.{◌≡◌, ◌++◌, take, w64}
 use Rattle.std.specs.List.{flat_map, AllByRecursion}
 use Rattle.std.specs.Prelude.{FitsSigned}
 use Rattle.binlog_format.specs.Inserts.{key_bytes}
-use Rattle.std.proofs.Common.{SFits, get_or, pos, rules}
-use Rattle.std.proofs.lemmas.Int.{to_z-of_z}
 use Rattle.binlog_format.proofs.inserts.writing.put_keys.Given as goal
 
 abbrev pub invariant-loop-item : goal.invariant-loop-item

@@ -1,4 +1,4 @@
-use Rattle.std.proofs.Common.{◌≡◌, ◌++◌, ◌<◌, ◌^◌, take, w32, w64}
+use Rattle.std.proofs.Common.{◌≡◌, ◌++◌, ◌<◌, ◌^◌, take}
 use Rattle.std.specs.List.{flat_map, AllByRecursion}
 use Rattle.binlog_format.specs.Inserts.{stamp_bytes}
 use Rattle.binlog_format.proofs.inserts.writing.put_stamps.Given as goal

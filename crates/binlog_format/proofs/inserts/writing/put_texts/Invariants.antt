@@ -1,6 +1,6 @@
-use Rattle.std.proofs.Common.{◌≡◌, ◌++◌, ◌<◌, ◌^◌, take, w32, w64}
+use Rattle.std.proofs.Common.{◌≡◌, ◌++◌, take}
 use Rattle.std.specs.List.{flat_map, AllByRecursion}
-use Rattle.binlog_format.specs.Inserts.{text_bytes, IsText, IsShort}
+use Rattle.binlog_format.specs.Inserts.{text_bytes, IsText}
 use Rattle.binlog_format.proofs.inserts.writing.put_texts.Given as goal
 
 abbrev pub invariant-loop-item : goal.invariant-loop-item
