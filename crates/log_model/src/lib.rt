@@ -1,0 +1,15 @@
+//! What a log of writes means: the rows that are live at a timestamp, the reply to a write, and the
+//! hits of a search. The layers above promise their answers in these words; the two functions here
+//! compute them plainly, from the log alone.
+#![tactic(auto)]
+
+mod distances;
+mod laws;
+mod logs;
+mod queries;
+mod slow;
+
+pub use crate::laws::stability;
+pub use crate::logs::{Entry, Write};
+pub use crate::queries::{Plan, Query};
+pub use crate::slow::{live_at, scan_at};
