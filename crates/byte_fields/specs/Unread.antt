@@ -1,5 +1,5 @@
 -- What a reader has in front of it.
-use Rattle.std.specs.Prelude.{ℕ, ◌+◌, List, drop}
+use Rattle.std.specs.Prelude.{ℕ, ◌+◌, List, length, drop}
 
 -- the bytes that are not read yet, and the place of the first of them among all bytes
 pub record Unread : Type 0 where
@@ -9,6 +9,10 @@ pub record Unread : Type 0 where
 -- what is unread of bytes that nobody has read from
 abbrev pub all_of : List ℕ → Unread
 all_of bytes = record { place = 0; rest = bytes }
+
+-- the place behind the last byte
+abbrev pub end_of : Unread → ℕ
+end_of unread = unread.place + length unread.rest
 
 -- what is unread behind the next n bytes
 abbrev pub past : ℕ → Unread → Unread

@@ -2,7 +2,7 @@
 
 ghost use Rattle.std.specs.Prelude.{◌≡◌, ◌+◌, ◌<◌, ◌≤◌, length, take, IfNone, IfSome};
 ghost use Rattle.std.specs.Int.{w32, w64, from_le_bytes};
-ghost use Rattle.byte_fields.specs.Unread.{all_of, past};
+ghost use Rattle.byte_fields.specs.Unread.{all_of, end_of, past};
 
 use std::marker::Model;
 
@@ -47,6 +47,13 @@ impl<'a> Reader<'a> {
         ensures { result ≡ length self.now.rest }
     {
         self.rest.len()
+    }
+
+    /// How many bytes there are, read and unread: the place of the end.
+    pub fn end(&self) -> usize
+        ensures { result ≡ end_of self.now }
+    {
+        self.place + self.rest.len()
     }
 
     /// The next `n` bytes, none of them copied.

@@ -9,6 +9,7 @@ fn reads_numbers_and_bytes_from_left_to_right(rt: HostRuntime) {
     assert_eq!(rt; reader.bytes(2), Some([7, 8].as_slice()));
     assert_eq!(rt; reader.place(), 14);
     assert_eq!(rt; reader.left(), 1);
+    assert_eq!(rt; reader.end(), 15);
 }
 
 #[test]

@@ -1,0 +1,8 @@
+use Rattle.std.proofs.Common.{◌-◌}
+use Rattle.binlog_format.specs.Reading.{items}
+use Rattle.binlog_format.specs.Inserts.{column_at}
+use Rattle.binlog_format.proofs.ReadLoop.{Continues}
+use Rattle.binlog_format.proofs.inserts.reading.each_column.Given as goal
+
+abbrev pub invariant-loop : goal.invariant-loop
+invariant-loop l = Continues (λ (state : Unit {0}). column_at l.n) (λ state x. state) l.found.items (l.count - l.counter) tt l.reader (items (λ (state : Unit {0}). column_at l.n) (λ state x. state) l.fn.count tt l.fn.reader)

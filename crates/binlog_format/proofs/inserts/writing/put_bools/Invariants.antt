@@ -1,0 +1,7 @@
+use Rattle.std.proofs.Common.{◌≡◌, ◌++◌, take}
+use Rattle.std.specs.List.{flat_map}
+use Rattle.binlog_format.specs.Inserts.{bool_bytes}
+use Rattle.binlog_format.proofs.inserts.writing.put_bools.Given as goal
+
+abbrev pub invariant-loop-item : goal.invariant-loop-item
+invariant-loop-item l = l.out.items ≡ l.fn.out.items ++ flat_map bool_bytes (take l.item-index l.bools)

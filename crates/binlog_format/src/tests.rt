@@ -1,0 +1,3 @@
+mod deletes;
+mod inserts;
+mod lists;
