@@ -24,8 +24,7 @@ pub fn tokens(alloc: Global, text: &[u8]) -> Result<Vec<Placed>, FilterError>
         if text[at] == b' ' {
             at += 1;
         } else {
-            let (_, rest) = text.split_at(at);
-            let Some((token, len)) = front(alloc, rest)? else {
+            let Some((token, len)) = front(alloc, &text[at..])? else {
                 return Err(FilterError::BadToken { at: at as u64 });
             };
             found.push(Placed {
@@ -128,19 +127,27 @@ fn word_of(alloc: Global, name: &[u8]) -> Result<Token, Memory>
     }
 }
 
+fn sign_len(text: &[u8]) -> usize
+    ensures value { result ≡ spec.sign_len text.now }
+    ensures within { result ≤ length text.now }
+{
+    if byte(text, 0) == b'-' { 1 } else { 0 }
+}
+
 fn number(text: &[u8]) -> Option<(Token, usize)>
     ensures value { result ≡ spec.number_at text.now }
     ensures within { IfSome result (λ t. (1 ≤ t.1) × (t.1 ≤ length text.now)) }
 {
-    let sign_len = if byte(text, 0) == b'-' { 1 } else { 0 };
-    let (_, digits) = text.split_at(sign_len);
-    let digits_len = digits_len(digits);
+    let sign_len = sign_len(text);
+    let digits_len = digits_len(&text[sign_len..]);
     if digits_len == 0 {
         return None;
     }
     let len = sign_len + digits_len;
-    let value = int_of(&text[..len])?;
-    Some((Token::Literal(Field::Int(value)), len))
+    match int_of(&text[..len]) {
+        Some(value) => Some((Token::Literal(Field::Int(value)), len)),
+        None => None,
+    }
 }
 
 fn int_of(text: &[u8]) -> Option<i64>
