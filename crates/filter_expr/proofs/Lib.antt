@@ -1,1 +1,3 @@
 mod Lexing
+mod SignLaws
+mod Turns

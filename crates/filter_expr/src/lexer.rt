@@ -24,7 +24,8 @@ pub fn tokens(alloc: Global, text: &[u8]) -> Result<Vec<Placed>, FilterError>
         if text[at] == b' ' {
             at += 1;
         } else {
-            let Some((token, len)) = front(alloc, &text[at..])? else {
+            let (_, rest) = text.split_at(at);
+            let Some((token, len)) = front(alloc, rest)? else {
                 return Err(FilterError::BadToken { at: at as u64 });
             };
             found.push(Placed {
@@ -139,7 +140,8 @@ fn number(text: &[u8]) -> Option<(Token, usize)>
     ensures within { IfSome result (λ t. (1 ≤ t.1) × (t.1 ≤ length text.now)) }
 {
     let sign_len = sign_len(text);
-    let digits_len = digits_len(&text[sign_len..]);
+    let (_, digits) = text.split_at(sign_len);
+    let digits_len = digits_len(digits);
     if digits_len == 0 {
         return None;
     }

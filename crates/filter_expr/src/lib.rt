@@ -4,7 +4,9 @@
 //! place where the text leaves the language.
 #![tactic(auto)]
 
+mod grammar;
 mod lexer;
+mod reading;
 mod refusals;
 mod tokens;
 

@@ -1,4 +1,4 @@
-use Rattle.std.proofs.Common.{◌≡◌, ◌≤◌, ◌∙◌, drop, Some, refl, arith}
+use Rattle.std.proofs.Common.{◌≡◌, ◌≤◌, ◌∙◌, drop, length, Some, refl, sym, ap, arith}
 use Rattle.filter_expr.specs.Tokens.{tokens_of, token_at}
 use Rattle.filter_expr.proofs.Lexing.{goes_on}
 use Rattle.filter_expr.proofs.lexer.tokens.Goals as goal
@@ -9,9 +9,10 @@ loop-at-init c = record { found = rw c.new-found.ensures.items refl; within = om
 
 pub loop-at-preserved : goal.loop-at-preserved
 loop-at-preserved c =
-    let is : token_at (drop c.loop-at.at c.args.text.now) ≡ Some (c.in-Some.token, c.in-Some.len) = cc in
     let long : 1 ≤ c.in-Some.len = grind arith in
+    let fits : c.in-Some.len ≤ length c.split_at.result.1.now = grind arith in
     record {
-      found = goes_on c.loop-at.found.items _ c.loop-at.at c.in-Some.len c.args.text.now c.in-Some.token c.loop-at-test.true c.if-text-at-eq32.false is long c.in_ok-push.ensures.items ∙ c.loop-at.invariant.found;
-      within = ?
+      found = goes_on c.loop-at.found.items _ c.loop-at.at c.in-Some.len c.args.text.now c.in-Some.token c.loop-at-test.true c.if-text-at-eq32.false
+          (ap token_at (sym c.split_at.ensures.back) ∙ sym c.in_ok-token.ensures.value ∙ c.in-Some.is) long c.in_ok-push.ensures.items ∙ c.loop-at.invariant.found;
+      within = omega (arith, fits, c.split_at.ensures.back_len);
     }
