@@ -1,3 +1,4 @@
 mod Lexing
+mod Rules
 mod SignLaws
 mod Turns

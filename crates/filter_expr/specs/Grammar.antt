@@ -66,6 +66,13 @@ unfoldable pub sees : Sign → Tokens → Bool
 sees sign [] = false
 sees sign (t ∷ ts) = is_sign sign t.token
 
+-- the name that a token is
+abbrev pub name_in : Token → Option (List ℕ)
+name_in (token.Name name) = Some name
+name_in (token.Literal f) = None
+name_in (token.Compare op) = None
+name_in (token.Sign s) = None
+
 -- the operator that comes next, and its place
 abbrev pub operator_in : ℕ → Token → Option (CompareOp × ℕ)
 operator_in at (token.Compare op) = Some (op, at)
@@ -190,22 +197,29 @@ module _ (end : ℕ) where
   abbrev pub too_deep : ℕ → Reader Filter
   too_deep at = λ ts. Err (TooDeep at)
 
-  -- a `one` by its first token
-  abbrev pub begun_by : Columns → (ℕ → Reader Filter) → (ℕ → Reader Filter) → ℕ → Token → Reader Filter
-  begun_by columns negation bracket at (token.Name name) = named columns name at
-  begun_by columns negation bracket at (token.Sign s) =
-      if same_sign s Not then negation at else (if same_sign s Open then bracket at else (λ ts. Err (Expected at)))
-  begun_by columns negation bracket at (token.Literal f) = λ ts. Err (Expected at)
-  begun_by columns negation bracket at (token.Compare op) = λ ts. Err (Expected at)
+  -- a `one` that begins with a name, or else with a sign
+  abbrev pub begun_by : Columns → (ℕ → Reader Filter) → (ℕ → Reader Filter) → ℕ → Token → Option (List ℕ) → Reader Filter
+  begun_by columns negation bracket at t (Some name) = named columns name at
+  begun_by columns negation bracket at t None =
+      if is_sign Not t then negation at else (if is_sign Open t then bracket at else (λ ts. Err (Expected at)))
 
   unfoldable pub one_by : Columns → (ℕ → Reader Filter) → (ℕ → Reader Filter) → Reader Filter
   one_by columns negation bracket [] = Err (Expected end)
-  one_by columns negation bracket (t ∷ ts) = begun_by columns negation bracket t.at t.token ts
+  one_by columns negation bracket (t ∷ ts) = begun_by columns negation bracket t.at t.token (name_in t.token) ts
 
   -- `one := "!" one | "(" any ")" | name ..`, where so many `!` and `(` may still be opened
   unfoldable pub one : Columns → ℕ → Reader Filter
   one columns zero = one_by columns too_deep too_deep
   one columns (suc depth) = one_by columns (negated (one columns depth)) (bracketed (one columns depth))
+
+  -- what stands behind a `!` and behind a `(`, where so many of them may still be opened
+  unfoldable pub negation_at : Columns → ℕ → ℕ → Reader Filter
+  negation_at columns zero = too_deep
+  negation_at columns (suc depth) = negated (one columns depth)
+
+  unfoldable pub bracket_at : Columns → ℕ → ℕ → Reader Filter
+  bracket_at columns zero = too_deep
+  bracket_at columns (suc depth) = bracketed (one columns depth)
 
 -- all tokens are read
 abbrev pub whole : Filter → Tokens → Result Filter FilterError

@@ -6,7 +6,7 @@ ghost use Rattle.row_types.specs.Schemas as schemas;
 ghost use Rattle.filter_expr.specs.Grammar as spec;
 ghost use Rattle.filter_expr.specs.Grammar.{Reads};
 
-use crate::reading::Cursor;
+use crate::reading::{Cursor, is_sign, name_in};
 use crate::refusals::FilterError;
 use crate::tokens::{Sign, Token};
 use row_types::{CompareOp, Field, Filter, Kind, List, Operand, Text};
@@ -111,7 +111,7 @@ impl<'a> Grammar<'a> {
         let mut found = Vec::new(self.alloc);
         let first = self.literal(tokens, kind)?;
         found.push(first)?;
-        while tokens.eat(Sign::Comma) {
+        'list: while tokens.eat(Sign::Comma) {
             let field = self.literal(tokens, kind)?;
             found.push(field)?;
         }
@@ -198,6 +198,89 @@ impl<'a> Grammar<'a> {
         } else {
             self.alone(tokens, at, left, kind)
         }
+    }
+
+    /// `all ("||" all)*`, in which so many `(` and `!` may still be opened.
+    #[cycle(grammar)]
+    pub fn any(&self, tokens: &mut Cursor<'_>, depth: u32) -> Result<Filter, FilterError>
+        ensures { Reads (spec.any self.now.end (spec.one self.now.end self.now.columns.now depth) tokens.old) result tokens.new }
+    {
+        let first = self.all(tokens, depth)?;
+        let mut members = Items::new(self.alloc);
+        members.push(first)?;
+        for _turn in 0..tokens.left() {
+            if !tokens.eat(Sign::Or) {
+                return Ok(any_of(members));
+            }
+            let member = self.all(tokens, depth)?;
+            members.push(member)?;
+        }
+        Ok(any_of(members))
+    }
+
+    /// `one ("&&" one)*`.
+    #[cycle(grammar)]
+    fn all(&self, tokens: &mut Cursor<'_>, depth: u32) -> Result<Filter, FilterError>
+        ensures { Reads (spec.all self.now.end (spec.one self.now.end self.now.columns.now depth) tokens.old) result tokens.new }
+    {
+        let first = self.one(tokens, depth)?;
+        let mut members = Items::new(self.alloc);
+        members.push(first)?;
+        for _turn in 0..tokens.left() {
+            if !tokens.eat(Sign::And) {
+                return Ok(all_of(members));
+            }
+            let member = self.one(tokens, depth)?;
+            members.push(member)?;
+        }
+        Ok(all_of(members))
+    }
+
+    /// `"!" one`, `"(" any ")"`, or what begins with a name.
+    #[cycle(grammar)]
+    fn one(&self, tokens: &mut Cursor<'_>, depth: u32) -> Result<Filter, FilterError>
+        ensures { Reads (spec.one self.now.end self.now.columns.now depth tokens.old) result tokens.new }
+    {
+        let Some(next) = tokens.take() else {
+            return Err(FilterError::Expected { at: self.end });
+        };
+        let at = next.at;
+        if let Some(name) = name_in(&next.token) {
+            return self.named(tokens, name.as_str(), at);
+        }
+        if is_sign(Sign::Not, &next.token) {
+            return self.negated(tokens, at, depth);
+        }
+        if is_sign(Sign::Open, &next.token) {
+            return self.bracketed(tokens, at, depth);
+        }
+        Err(FilterError::Expected { at })
+    }
+
+    /// Behind a `!`.
+    #[cycle(grammar)]
+    fn negated(&self, tokens: &mut Cursor<'_>, at: u64, depth: u32) -> Result<Filter, FilterError>
+        ensures { Reads (spec.negation_at self.now.end self.now.columns.now depth at tokens.old) result tokens.new }
+    {
+        if depth == 0 {
+            return Err(FilterError::TooDeep { at });
+        }
+        let inner = self.one(tokens, depth - 1)?;
+        let inner = Boxed::new(self.alloc, inner)?;
+        Ok(Filter::Not(inner))
+    }
+
+    /// Behind a `(`.
+    #[cycle(grammar)]
+    fn bracketed(&self, tokens: &mut Cursor<'_>, at: u64, depth: u32) -> Result<Filter, FilterError>
+        ensures { Reads (spec.bracket_at self.now.end self.now.columns.now depth at tokens.old) result tokens.new }
+    {
+        if depth == 0 {
+            return Err(FilterError::TooDeep { at });
+        }
+        let inner = self.any(tokens, depth - 1)?;
+        self.expect(tokens, Sign::Close)?;
+        Ok(inner)
     }
 }
 

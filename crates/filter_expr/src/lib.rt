@@ -4,11 +4,43 @@
 //! place where the text leaves the language.
 #![tactic(auto)]
 
+ghost use Rattle.std.specs.Prelude.{◌≡◌, ◌⊎◌, Ok, Err, IfOk, IfErr};
+ghost use Rattle.filter_expr.specs.Grammar.{filter_of};
+
 mod grammar;
 mod lexer;
 mod reading;
 mod refusals;
 mod tokens;
 
+use crate::grammar::Grammar;
+use crate::reading::Cursor;
 pub use crate::refusals::FilterError;
 pub use row_types::holds;
+use row_types::{Filter, Schema, Text};
+use std::alloc::Global;
+
+/// How many `(` and `!` may be open at once.
+const MOST_OPEN: u32 = 32;
+
+/// The filter that a text spells, over the columns of a schema. A refusal tells the first place
+/// where the text leaves the language.
+#[tactic(auto, unfolding(crate::specs::Grammar::filter_of))]
+pub fn parse(alloc: Global, text: &Text, schema: &Schema) -> Result<Filter, FilterError>
+    ensures ok { IfOk result (λ filter. filter_of schema.now.columns text.now ≡ Ok filter) }
+    ensures err { IfErr result (λ e. (e ≡ FilterError.Memory) ⊎ (filter_of schema.now.columns text.now ≡ Err e)) }
+{
+    let bytes = text.as_str().as_bytes();
+    let tokens = lexer::tokens(alloc, bytes)?;
+    let grammar = Grammar {
+        alloc,
+        columns: schema.columns.as_slice(),
+        end: bytes.len() as u64,
+    };
+    let mut rest = Cursor::new(&tokens);
+    let filter = grammar.any(&mut rest, MOST_OPEN)?;
+    match rest.peek() {
+        Some(next) => Err(FilterError::Expected { at: next.at }),
+        None => Ok(filter),
+    }
+}

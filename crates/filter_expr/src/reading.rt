@@ -5,7 +5,7 @@ ghost use Rattle.std.specs.Option.{option_copied};
 ghost use Rattle.filter_expr.specs.Grammar as spec;
 
 use crate::tokens::{Placed, Sign, Token};
-use row_types::CompareOp;
+use row_types::{CompareOp, Text};
 use std::marker::Model;
 
 /// The tokens that are left to read.
@@ -128,11 +128,21 @@ fn same_sign(a: Sign, b: Sign) -> bool
     a == b
 }
 
-fn is_sign(sign: Sign, token: &Token) -> bool
+pub fn is_sign(sign: Sign, token: &Token) -> bool
     ensures { result ≡ spec.is_sign sign token.now }
 {
     match token {
         Token::Sign(other) => same_sign(sign, *other),
         _ => false,
+    }
+}
+
+/// The name that a token is.
+pub fn name_in(token: &Token) -> Option<&Text>
+    ensures { option_copied result ≡ spec.name_in token.now }
+{
+    match token {
+        Token::Name(name) => Some(name),
+        _ => None,
     }
 }
