@@ -1,14 +1,14 @@
 -- Names and numbers are ASCII, and a number's digits are a numeral; tokens follow one another.
-use Rattle.std.proofs.Common.{◌≡◌, ℕ, zero, suc, ◌+◌, ◌-◌, ◌<◌, ◌≤◌, ◌==◌, Bool, true, false, cond, ◌||◌, List, [], ◌∷◌, ◌++◌, length, take, drop, slice_index, Some, None, Err, refl, sym, ◌∙◌, ap, subst, arith}
+use Rattle.std.proofs.Common.{◌≡◌, ℕ, zero, suc, ◌+◌, ◌-◌, ◌<◌, ◌≤◌, ◌==◌, Bool, true, false, cond, List, [], ◌∷◌, ◌++◌, length, take, drop, slice_index, Some, None, Err, refl, sym, ◌∙◌, ap, subst, arith}
 use Rattle.std.proofs.lemmas.Bool.Decides.{nat_tests}
 use Rattle.std.proofs.lemmas.Str.{IsUtf8-from_ascii, IsUtf8-from_is_utf8, is_utf8-from_IsUtf8}
 use Rattle.std.proofs.lemmas.List.Folds.{length-prefix_len}
 use Rattle.std.proofs.lemmas.List.{drop-drop, length-drop}
-use Rattle.std.specs.Char.{is_ascii_digit, is_ascii_alphabetic, is_ascii_alphanumeric, digit_value}
+use Rattle.std.specs.Char.{is_ascii_digit, digit_value}
 use Rattle.std.specs.List.{prefix_len}
-use Rattle.std.specs.Str.{IsUtf8, IsAscii, is_utf8}
+use Rattle.std.specs.Str.{IsUtf8, is_utf8}
 use Rattle.std.specs.Str.Parse.{IsNumeral, AllDigits, without_leading_sign}
-use Rattle.filter_expr.specs.Tokens.{is_letter, is_name_byte, name_len, sign_len, digits_len, tokens_from, token_at, text_token}
+use Rattle.filter_expr.specs.Tokens.{is_name_byte, name_len, sign_len, digits_len, tokens_from, token_at, text_token}
 use Rattle.row_types.specs.declared.rows.Field.TheVariants as field
 use Rattle.filter_expr.specs.declared.tokens.Placed.{Placed}
 use Rattle.filter_expr.specs.declared.tokens.Token.{Token}

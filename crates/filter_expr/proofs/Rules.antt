@@ -1,5 +1,5 @@
 -- The grammar's rules, by the steps that the code takes.
-use Rattle.std.proofs.Common.{◌≡◌, ℕ, zero, suc, ◌<◌, true, false, Bool, cond, [], ◌∷◌, ◌++◌, List, length, drop, Result, Ok, Err, refl, sym, ◌∙◌, ap, arith}
+use Rattle.std.proofs.Common.{◌≡◌, ℕ, zero, suc, true, false, Bool, cond, [], ◌∷◌, ◌++◌, List, drop, Result, Ok, Err, refl}
 use Rattle.row_types.specs.declared.rows.Kind.{Kind}
 use Rattle.row_types.specs.declared.rows.Field.{Field}
 use Rattle.row_types.specs.Schemas.{Columns}

@@ -1,5 +1,5 @@
 -- What reading a sign leaves.
-use Rattle.std.proofs.Common.{◌≡◌, ◌<◌, true, false, [], ◌∷◌, length, drop, arith}
+use Rattle.std.proofs.Common.{◌≡◌, ◌<◌, true, [], ◌∷◌, length, drop, arith}
 use Rattle.filter_expr.specs.declared.tokens.Sign.{Sign}
 use Rattle.filter_expr.specs.Grammar.{Tokens, sees}
 

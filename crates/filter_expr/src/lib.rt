@@ -6,18 +6,22 @@
 
 ghost use Rattle.std.specs.Prelude.{◌≡◌, ◌⊎◌, Ok, Err, IfOk, IfErr};
 ghost use Rattle.filter_expr.specs.Grammar.{filter_of};
+ghost use Rattle.filter_expr.specs.Printing.{text_of};
 
 mod grammar;
 mod lexer;
+mod printing;
 mod reading;
 mod refusals;
+#[cfg(test)]
+mod tests;
 mod tokens;
 
 use crate::grammar::Grammar;
 use crate::reading::Cursor;
 pub use crate::refusals::FilterError;
 pub use row_types::holds;
-use row_types::{Filter, Schema, Text};
+use row_types::{Filter, Memory, Schema, Text};
 use std::alloc::Global;
 
 /// How many `(` and `!` may be open at once.
@@ -43,4 +47,13 @@ pub fn parse(alloc: Global, text: &Text, schema: &Schema) -> Result<Filter, Filt
         Some(next) => Err(FilterError::Expected { at: next.at }),
         None => Ok(filter),
     }
+}
+
+/// The text of a filter, with brackets only where the grammar needs them.
+pub fn print(alloc: Global, filter: &Filter, schema: &Schema) -> Result<Text, Memory>
+    ensures { IfOk result (λ text. text ≡ text_of schema.now.columns filter.now) }
+{
+    let mut out = String::new(alloc);
+    printing::write_filter(alloc, &mut out, schema.columns.as_slice(), filter)?;
+    Ok(Text::of(out))
 }

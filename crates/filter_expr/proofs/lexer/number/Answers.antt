@@ -1,7 +1,7 @@
 use Rattle.std.proofs.Common.{◌∙◌, ap}
 use Rattle.std.specs.Char.{is_ascii_digit}
 use Rattle.std.specs.List.{prefix_len}
-use Rattle.filter_expr.proofs.Lexing.{IsSpelling, spells}
+use Rattle.filter_expr.proofs.Lexing.{spells}
 use Rattle.filter_expr.proofs.lexer.number.Goals as goal
 
 pub int_of-requires-clause-numeral : goal.int_of-requires-clause-numeral

@@ -1,4 +1,4 @@
-use Rattle.std.proofs.Common.{◌≡◌, ◌≤◌, ◌∙◌, drop, length, Some, refl, sym, ap, arith}
+use Rattle.std.proofs.Common.{◌≤◌, ◌∙◌, length, refl, sym, ap, arith}
 use Rattle.filter_expr.specs.Tokens.{tokens_of, token_at}
 use Rattle.filter_expr.proofs.Lexing.{goes_on}
 use Rattle.filter_expr.proofs.lexer.tokens.Goals as goal

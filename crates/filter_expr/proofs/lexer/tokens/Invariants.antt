@@ -1,4 +1,4 @@
-use Rattle.std.proofs.Common.{◌≡◌, ◌+◌, ◌-◌, ◌≤◌, length, drop}
+use Rattle.std.proofs.Common.{◌≡◌, ◌-◌, ◌≤◌, length, drop}
 use Rattle.filter_expr.specs.Tokens.{tokens_of, tokens_from}
 use Rattle.filter_expr.proofs.lexer.tokens.Given as goal
 

@@ -1,4 +1,4 @@
-use Rattle.std.proofs.Common.{◌≡◌, ◌-◌, ℕ, Ok, ap, rules, arith}
+use Rattle.std.proofs.Common.{◌≡◌, Ok, ap, rules, arith}
 use Rattle.std.proofs.lemmas.Grind.{common_steps}
 use Rattle.filter_expr.specs.declared.tokens.Sign.TheVariants.{Or, And}
 use Rattle.filter_expr.specs.Grammar.{and_then, any_of, all_of, more, joined, any, all, one, negation_at, bracket_at, negated, bracketed, one_by}

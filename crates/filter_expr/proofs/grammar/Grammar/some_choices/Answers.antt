@@ -1,4 +1,4 @@
-use Rattle.std.proofs.Common.{◌≡◌, ◌++◌, ◌∷◌, [], drop, sym, ◌∙◌, rules, arith}
+use Rattle.std.proofs.Common.{[], drop, sym, ◌∙◌, rules, arith}
 use Rattle.std.proofs.lemmas.Grind.{common_steps}
 use Rattle.filter_expr.proofs.Rules.{choices_literal, choices_comma, choices_end}
 use Rattle.filter_expr.proofs.grammar.Grammar.some_choices.Goals as goal
