@@ -16,7 +16,7 @@ use Rattle.filter_expr.specs.declared.tokens.Token.TheVariants.{Literal}
 use Rattle.filter_expr.specs.declared.refusals.FilterError.TheVariants.{BadToken}
 
 -- each byte is below 128
-abbrev AllLow : List ℕ → Type 0
+abbrev pub AllLow : List ℕ → Type 0
 AllLow [] = Unit {0}
 AllLow (b ∷ bs) = (b < 128) × AllLow bs
 
@@ -25,7 +25,7 @@ low_at [] h i = omega arith
 low_at (b ∷ bs) h zero = h.0
 low_at (b ∷ bs) h (suc i) = low_at bs h.1 i
 
-utf8_of_low : (bs : List ℕ) → AllLow bs → IsUtf8 bs
+pub utf8_of_low : (bs : List ℕ) → AllLow bs → IsUtf8 bs
 utf8_of_low bs h = IsUtf8-from_ascii bs (low_at bs h)
 
 low_name_byte : (b : ℕ) → is_name_byte b ≡ true → b < 128

@@ -1,3 +1,4 @@
+mod EscapeLaws
 mod Lexing
 mod Rules
 mod SignLaws

@@ -113,9 +113,8 @@ fn word_of(alloc: Global, name: &[u8]) -> Result<Token, Memory>
     requires { IsUtf8 name.now }
     ensures { IfOk result (λ token. token ≡ spec.word_of name.now) }
 {
-    let name = match str::from_utf8(name) {
-        Ok(name) => name,
-        Err(_) => return Err(Memory),
+    let Ok(name) = str::from_utf8(name) else {
+        unreachable!()
     };
     match name {
         "and" => Ok(Token::Sign(Sign::And)),
@@ -158,7 +157,7 @@ fn int_of(text: &[u8]) -> Option<i64>
     ensures { result ≡ spec.int_of text.now }
 {
     let Ok(text) = str::from_utf8(text) else {
-        return None;
+        unreachable!()
     };
     text.parse::<i64>().ok()
 }

@@ -66,14 +66,20 @@ fn escaped(alloc: Global, text: &str) -> Result<Vec<u8>, Memory>
 fn write_quoted(alloc: Global, out: &mut String, text: &str) -> Result<(), Memory>
     ensures { OnOk result (string_bytes out.new ≡ string_bytes out.old ++ (codes "\"" ++ spec.escaped text.now ++ codes "\"")) }
 {
-    let bytes = escaped(alloc, text)?;
-    // The bytes are UTF-8 as those of the text are, so this refuses nothing.
-    let Ok(content) = String::from_utf8(bytes) else {
-        return Err(Memory);
-    };
+    let content = quotable(alloc, text)?;
     push(out, "\"")?;
     push(out, content.as_str())?;
     push(out, "\"")
+}
+
+fn quotable(alloc: Global, text: &str) -> Result<String, Memory>
+    ensures { IfOk result (λ content. string_bytes content ≡ spec.escaped text.now) }
+{
+    let bytes = escaped(alloc, text)?;
+    let Ok(content) = String::from_utf8(bytes) else {
+        unreachable!()
+    };
+    Ok(content)
 }
 
 fn write_int(alloc: Global, out: &mut String, number: i64) -> Result<(), Memory>
