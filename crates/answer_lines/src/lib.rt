@@ -5,7 +5,12 @@
 #![tactic(auto)]
 
 mod answers;
+mod lines;
 mod reasons;
+#[cfg(test)]
+mod tests;
+mod values;
 
 pub use crate::answers::{Answer, MeetReply, WriteReply, Wrote};
+pub use crate::lines::line;
 pub use crate::reasons::Reason;

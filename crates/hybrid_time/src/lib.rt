@@ -5,6 +5,8 @@
 #![tactic(auto)]
 
 mod levels;
+#[cfg(test)]
+mod tests;
 mod times;
 
 pub use crate::levels::{Level, guarantee};

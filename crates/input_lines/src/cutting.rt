@@ -1,8 +1,10 @@
 //! Lines, one after another.
 
-ghost use Rattle.std.specs.Prelude.{◌≡◌, ◌==◌, ◌∷◌, ◌<◌, [], length, MatchOption};
-ghost use Rattle.std.specs.List.{position};
+ghost use Rattle.std.specs.Prelude.{◌≡◌, ◌≢◌, ℕ, ◌∷◌, ◌<◌, ◌≤◌, [], length, slice_index, MatchOption};
 ghost use Rattle.input_lines.specs.Lines.{lines_of};
+
+/// The byte that ends a line.
+const LF: u8 = b'\n';
 
 /// The first line of `rest`, without its LF, and the bytes behind it; `None` where nothing is left.
 pub fn cut_line(rest: &[u8]) -> Option<(&[u8], &[u8])>
@@ -12,17 +14,28 @@ pub fn cut_line(rest: &[u8]) -> Option<(&[u8], &[u8])>
     if rest.is_empty() {
         return None;
     }
-    match find_end(rest) {
-        Some(end) => Some((&rest[..end], &rest[end + 1..])),
-        None => Some((rest, &[])),
+    let end = find_end(rest, 0);
+    if end == rest.len() {
+        Some((rest, &[]))
+    } else {
+        Some((&rest[..end], &rest[end + 1..]))
     }
 }
 
-/// The place of the first LF.
-pub fn find_end(bytes: &[u8]) -> Option<usize>
-    ensures { result ≡ position (λ byte. byte == 10) bytes.now }
+/// The place of the first LF at or behind `from`, or the length where there is none.
+pub fn find_end(bytes: &[u8], from: usize) -> usize
+    requires { from ≤ length bytes.now }
+    ensures behind { from ≤ result }
+    ensures within { result ≤ length bytes.now }
+    ensures before { (k : ℕ) → from ≤ k → k < result → slice_index bytes.now k ≢ LF }
+    ensures found { result < length bytes.now → slice_index bytes.now result ≡ LF }
 {
-    bytes.iter().position(|byte| *byte == b'\n')
+    'bytes: for i in from..bytes.len() {
+        if bytes[i] == LF {
+            return i;
+        }
+    }
+    bytes.len()
 }
 
 #[cfg(test)]

@@ -8,5 +8,5 @@
 mod cutting;
 mod limits;
 
-pub use crate::cutting::cut_line;
+pub use crate::cutting::{cut_line, find_end};
 pub use crate::limits::{MAX_INPUT, MAX_LINE, MAX_LINES, Over, Progress};

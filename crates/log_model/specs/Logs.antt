@@ -1,5 +1,5 @@
 -- A log of writes, and the rows that it leaves.
-use Rattle.std.specs.Prelude.{ℕ, ◌<◌, ◌≤◌, Bool, cond, List, [], ◌∷◌, if◌then◌else◌, nat_le, nat_lt, ℤ}
+use Rattle.std.specs.Prelude.{ℕ, ◌<◌, ◌≤◌, Bool, List, [], ◌∷◌, if◌then◌else◌, nat_le, nat_lt, ℤ}
 use Rattle.std.specs.List.{filter, AllByRecursion}
 use Rattle.std.specs.Ordering.{int_cmp}
 use Rattle.std.specs.FinMap as fin
@@ -51,3 +51,11 @@ live log ts = rows_of (up_to log ts)
 -- whether the key of a write was live before its timestamp
 abbrev pub was_live : List Entry → ℕ → Write → Bool
 was_live log ts write = fin.contains_key (rows_of (below log ts)) (key_of write)
+
+-- all entries are above a timestamp
+abbrev pub IsAbove : ℕ → List Entry → Type 0
+IsAbove ts log = AllByRecursion (λ entry. ts < entry.ts.0) log
+
+-- no entry is below a timestamp
+abbrev pub IsFrom : ℕ → List Entry → Type 0
+IsFrom ts log = AllByRecursion (λ entry. ts ≤ entry.ts.0) log

@@ -1,10 +1,9 @@
 -- What a search finds in a log.
-use Rattle.std.specs.Prelude.{◌≡◌, ℕ, Bool, List, map, length}
+use Rattle.std.specs.Prelude.{◌≡◌, ℕ, List, map, length}
 use Rattle.std.specs.List.{AllByRecursion}
 use Rattle.std.specs.FinMap as fin
 use Rattle.row_types.specs.declared.rows.Row.{Row}
 use Rattle.row_types.specs.declared.hits.Hit.{Hit}
-use Rattle.row_types.specs.declared.hits.Metric.{Metric}
 use Rattle.row_types.specs.Hits.{distance_of, least}
 use Rattle.log_model.specs.declared.logs.Write.{Write}
 use Rattle.log_model.specs.declared.logs.Write.TheVariants.{Insert, Upsert, Delete}

@@ -3,8 +3,13 @@
 //! compute them plainly, from the log alone.
 #![tactic(auto)]
 
+mod distances;
+mod laws;
 mod logs;
 mod queries;
+mod slow;
 
+pub use crate::laws::stability;
 pub use crate::logs::{Entry, Write};
 pub use crate::queries::{Plan, Query};
+pub use crate::slow::{live_at, scan_at};

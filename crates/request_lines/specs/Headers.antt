@@ -1,10 +1,12 @@
 -- The header line: which bytes make a collection.
-use Rattle.std.specs.Prelude.{ℕ, ℤ, ◌%◌, ◌&&◌, ◌==◌, Bool, false, List, [], ◌∷◌, Option, Some, None, option_and_then, option_map, unwrap_or, if◌then◌else◌, codes}
+use Rattle.std.specs.Prelude.{◌≡◌, ℕ, ℤ, ◌%◌, ◌&&◌, ◌==◌, Bool, false, List, [], ◌∷◌, Option, Some, None, option_and_then, option_map, unwrap_or, if◌then◌else◌, codes}
 use Rattle.std.specs.Str.{bytes_eq}
 use Rattle.serde_json.specs.Data.{Data}
 use Rattle.row_types.specs.declared.hits.Metric.TheVariants.{Hamming}
 use Rattle.coarse_lists.specs.declared.collections.Collection.{Collection}
 use Rattle.coarse_lists.specs.declared.collections.Index.TheVariants.{Flat}
+use Rattle.request_lines.specs.declared.refusals.HeaderError.{HeaderError}
+use Rattle.request_lines.specs.declared.refusals.HeaderError.TheVariants.{NotCreate, Memory}
 use Rattle.request_lines.specs.Json.{value_of, text_at, integer_at, between, has_only}
 
 abbrev pub header_members : List (List ℕ)
@@ -42,3 +44,8 @@ collection_in d =
 -- the collection that the first line makes, where it is a `create` line
 abbrev pub header_of : List ℕ → Option Collection
 header_of bytes = option_and_then collection_in (value_of bytes)
+
+-- an error is free where it is want of memory, and else there is no header
+abbrev pub RefusesHeader : Option Collection → HeaderError → Type 0
+RefusesHeader read Memory = Unit {0}
+RefusesHeader read NotCreate = read ≡ None

@@ -18,6 +18,8 @@ use Rattle.answer_lines.specs.declared.reasons.Reason.{Reason}
 use Rattle.answer_lines.specs.declared.reasons.Reason.TheVariants.{NotJson, NotObject, BadOp, LateCreate, UnknownMember, BadKey, NoVector, BadVector, BadK, BadLevel}
 use Rattle.request_lines.specs.declared.operations.Operation.{Operation}
 use Rattle.request_lines.specs.declared.operations.Operation.TheVariants.{Insert, Upsert, Delete, Search, Tick}
+use Rattle.request_lines.specs.declared.refusals.LineError.{LineError}
+use Rattle.request_lines.specs.declared.refusals.LineError.TheVariants.{Refused, Memory}
 use Rattle.request_lines.specs.declared.requests.Request.{Request}
 use Rattle.request_lines.specs.declared.requests.Ask.{Ask}
 use Rattle.request_lines.specs.declared.requests.Ask.TheVariants as asks
@@ -114,20 +116,22 @@ query_of vector k = record { vector = vector; k = k }
 abbrev pub query_in : ℕ → Data → Result Query Reason
 query_in dim d = and_then (vector_in dim d) (λ vector. and_then (k_in d) (λ k. Ok (query_of vector k)))
 
+abbrev pub search_in : ℕ → Data → Result Ask Reason
+search_in dim d = and_then (query_in dim d) (λ query. and_then (level_in d) (λ level. Ok (asks.Search query level true)))
+
 -- what an operation asks with these members
 abbrev pub ask_in : Collection → Data → Operation → Result Ask Reason
 ask_in collection d Insert = and_then (row_in collection.dim d) (λ row. Ok (asks.Write (writes.Insert row)))
 ask_in collection d Upsert = and_then (row_in collection.dim d) (λ row. Ok (asks.Write (writes.Upsert row)))
 ask_in collection d Delete = and_then (key_in d) (λ key. Ok (asks.Write (writes.Delete key)))
-ask_in collection d Search = and_then (query_in collection.dim d) (λ query. and_then (level_in d) (λ level. Ok (asks.Search query level true)))
+ask_in collection d Search = search_in collection.dim d
 ask_in collection d Tick = Ok asks.Tick
 
 abbrev pub request_in : Collection → Data → Result Request Reason
 request_in collection d =
-    and_then (operation_in d) (λ operation.
-    and_then (form_in d operation) (λ _.
+    and_then (and_then (operation_in d) (form_in d)) (λ operation.
     and_then (ask_in collection d operation) (λ ask.
-    Ok (record { caller = 0; what = ask }))))
+    Ok (record { caller = 0; what = ask })))
 
 -- the request that a line is, or the first reason why it is none
 abbrev pub request_of : Collection → List ℕ → Result Request Reason
@@ -151,3 +155,8 @@ FitsAsk dim asks.Tick = Unit {0}
 
 abbrev pub Fits : Collection → Request → Type 0
 Fits collection request = FitsAsk collection.dim request.what
+
+-- an error is free where it is want of memory, and else is the reason that was found
+abbrev pub Refuses : {T : Type 0} → Result T Reason → LineError → Type 0
+Refuses read Memory = Unit {0}
+Refuses read (Refused reason) = read ≡ Err reason

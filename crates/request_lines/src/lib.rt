@@ -4,10 +4,18 @@
 //! line being read as that definition says, or refused for the first reason that holds of it.
 #![tactic(auto)]
 
+mod headers;
+mod lines;
+mod members;
 mod operations;
 mod refusals;
 mod requests;
+#[cfg(test)]
+mod tests;
+mod values;
 
+pub use crate::headers::read_header;
+pub use crate::lines::read_line;
 pub use crate::refusals::{HeaderError, LineError};
 pub use crate::requests::{Ask, Request};
 pub use coarse_lists::{Collection, Index};

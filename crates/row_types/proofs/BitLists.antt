@@ -237,3 +237,6 @@ IsBytes-append (x ∷ xs) ys h k = IsBytes-cons x (xs ++ ys) (h 0) (IsBytes-appe
 pub IsBytes-zeros : (n : ℕ) → IsBytes (replicate n 0)
 IsBytes-zeros zero = λ i. omega arith
 IsBytes-zeros (suc n) = IsBytes-cons 0 (replicate n 0) (omega arith) (IsBytes-zeros n)
+
+pub length_from_bytes : (bits : List Bool) (bytes : List ℕ) (dim : ℕ) → bits ≡ bits_in 8 bytes → 8 * length bytes ≡ dim → length bits ≡ dim
+length_from_bytes bits bytes dim e h = ap (λ (t : List Bool). length t) e ∙ length-bits_in 8 bytes ∙ h

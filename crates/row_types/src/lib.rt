@@ -11,6 +11,8 @@ mod lists;
 mod refusals;
 mod rows;
 mod schemas;
+#[cfg(test)]
+mod tests;
 mod texts;
 mod vectors;
 

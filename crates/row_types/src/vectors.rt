@@ -2,7 +2,8 @@
 
 ghost use Rattle.std.specs.Prelude.{◌≡◌, ◌+◌, ◌-◌, ◌*◌, ◌<◌, ◌≤◌, ◌++◌, ◌⊎◌, false, length, replicate, IfOk, IfErr, OnOk, OnErr};
 ghost use Rattle.row_types.specs.Bits.{bits_of, bits_in, bytes_of, AreWordsOf, HoldBytes, IsDimension};
-ghost use Rattle.row_types.specs.Spelling.{hex_of, vector_of};
+ghost use Rattle.row_types.specs.Spelling.{hex_of, of_decoded, vector_of};
+ghost use Rattle.hex.specs.Hex.{decode_of};
 
 use crate::allocation::Memory;
 use crate::refusals::VectorError;
@@ -36,12 +37,14 @@ impl Model for BitVector {
 impl BitVector {
     /// The vector of `dim` bits that a text spells: two hexadecimal digits a byte, of either case.
     ///
-    /// `WrongLength` where the text has other than `dim / 4` bytes, then `NotHex` at the first byte
-    /// that is no digit, then `Memory`.
+    /// `WrongLength` exactly where the text has other than `dim / 4` bytes, then `NotHex` at the first
+    /// byte that is no digit, and `Memory` only where the text spells a vector.
     pub fn from_hex(alloc: Global, text: &Text, dim: u32) -> Result<BitVector, VectorError>
         requires { IsDimension dim }
         ensures ok { IfOk result (λ v. vector_of text.now dim ≡ Ok v) }
+        ensures dim { IfOk result (λ v. length v ≡ dim) }
         ensures err { IfErr result (λ e. (e ≡ VectorError.Memory) ⊎ (vector_of text.now dim ≡ Err e)) }
+        ensures refused { IfErr (vector_of text.now dim) (λ e. result ≡ Err e) }
     {
         BitVector::from_digits(alloc, text.as_str(), dim)
     }
@@ -50,23 +53,18 @@ impl BitVector {
     pub fn from_digits(alloc: Global, text: &str, dim: u32) -> Result<BitVector, VectorError>
         requires { IsDimension dim }
         ensures ok { IfOk result (λ v. vector_of text.now dim ≡ Ok v) }
+        ensures dim { IfOk result (λ v. length v ≡ dim) }
         ensures err { IfErr result (λ e. (e ≡ VectorError.Memory) ⊎ (vector_of text.now dim ≡ Err e)) }
+        ensures refused { IfErr (vector_of text.now dim) (λ e. result ≡ Err e) }
     {
-        if text.len() != (dim / 4) as usize {
+        let count = (dim / 8) as usize;
+        if text.len() != 2 * count {
             return Err(VectorError::WrongLength {
                 digits: text.len() as u64,
             });
         }
-        match hex::decode(alloc, text) {
-            Ok(bytes) => match BitVector::from_bytes(alloc, bytes.as_slice()) {
-                Ok(vector) => Ok(vector),
-                Err(Memory) => Err(VectorError::Memory),
-            },
-            Err(FromHexError::InvalidHexCharacter { c: _, index }) => Err(VectorError::NotHex {
-                at: index as u64,
-            }),
-            Err(_) => Err(VectorError::Memory),
-        }
+        let mut room = [0; 512];
+        spelled(alloc, text, &mut room[..count])
     }
 
     /// The vector of the bits of some bytes, in order, the lowest bit of each first.
@@ -128,6 +126,40 @@ impl BitVector {
         ensures { AreWordsOf self.now result.now }
     {
         self.words.as_slice()
+    }
+}
+
+// The bytes that a text of twice as many digits spells; takes no memory.
+fn decode(text: &str, bytes: &mut [u8]) -> Result<(), VectorError>
+    requires { length text.now ≡ 2 * length bytes.old }
+    ensures ok { OnOk result (decode_of text.now ≡ Ok bytes.new) }
+    ensures err { IfErr result (λ e. of_decoded (decode_of text.now) ≡ Err e) }
+{
+    match hex::decode_to_slice(text, bytes) {
+        Ok(()) => Ok(()),
+        Err(FromHexError::InvalidHexCharacter { c: _, index }) => Err(VectorError::NotHex {
+            at: index as u64,
+        }),
+        Err(_) => Err(VectorError::Memory),
+    }
+}
+
+// The vector of the bytes that a text spells, for which `room` is given.
+fn spelled(alloc: Global, text: &str, room: &mut [u8]) -> Result<BitVector, VectorError>
+    requires same { length text.now ≡ 2 * length room.old }
+    requires few { length room.old ≤ 512 }
+    ensures ok { IfOk result (λ v. of_decoded (decode_of text.now) ≡ Ok v) }
+    ensures dim { IfOk result (λ v. length v ≡ 8 * length room.old) }
+    ensures err { IfErr result (λ e. (e ≡ VectorError.Memory) ⊎ (of_decoded (decode_of text.now) ≡ Err e)) }
+    ensures refused { IfErr (of_decoded (decode_of text.now)) (λ e. result ≡ Err e) }
+{
+    match decode(text, room) {
+        Ok(()) => {}
+        Err(refusal) => return Err(refusal),
+    }
+    match BitVector::from_bytes(alloc, room) {
+        Ok(vector) => Ok(vector),
+        Err(Memory) => Err(VectorError::Memory),
     }
 }
 

@@ -1,0 +1,4 @@
+pub mod Grown
+pub mod Later
+pub mod Placed
+pub mod Stands

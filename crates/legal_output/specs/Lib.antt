@@ -1,0 +1,5 @@
+pub mod Legal
+pub mod Lines
+pub mod Outputs
+pub mod Printed
+pub mod Runs

@@ -1,0 +1,9 @@
+//! What a legal output is: for the bytes of an input, which lines may be printed.
+//!
+//! The definition speaks of the printed lines alone and names nothing of how they were made. The layer
+//! above keeps an account of a run, line by line, and relies on the law that such a run is legal.
+#![tactic(auto)]
+
+mod laws;
+
+pub use crate::laws::runs_are_legal;

@@ -1,0 +1,6 @@
+pub mod LogLaws
+pub mod RowMaps
+pub mod Counts
+pub mod Applies
+pub mod Reached
+pub mod Dimensions

@@ -1,0 +1,135 @@
+-- What the first bytes of an input already say.
+use Rattle.std.proofs.Common.{◌≡◌, ◌≢◌, ℕ, suc, ◌+◌, ◌<◌, ◌≤◌, List, [], ◌∷◌, ◌++◌, length, length-take, get_or, take, ap, sym, ◌∙◌, subst, arith, Option, Some, None, IsSome, append-nil, append_assoc, refl, ◌↔◌, length-append}
+use Rattle.std.specs.Io.KnownBytes.{Consumes, Keeps, IsAtEnd}
+use Rattle.coarse_lists.specs.Collections.{IsInRange}
+use Rattle.manu_edge.specs.Faults.{Rose}
+use Rattle.manu_serve.specs.declared.reading.ReadError.{ReadError}
+use Rattle.manu_serve.specs.declared.reading.ReadError.TheVariants.{BadHeader, Fault, Limit, Memory}
+use Rattle.std.specs.List.{AllByRecursion}
+use Rattle.coarse_lists.specs.declared.collections.Collection.{Collection}
+use Rattle.request_lines.specs.Headers.{header_of}
+use Rattle.input_lines.specs.declared.limits.TheConstants.{MAX_INPUT, MAX_LINE, MAX_LINES}
+use Rattle.input_lines.specs.Lines.{lines_of, first_line, first_or_empty}
+use Rattle.input_lines.specs.Limits.{IsShort, HasFewLines, IsWithin, LimitsBehind}
+use Rattle.input_lines.proofs.Cuts.{lines_of-open, first_line-ended, first_line-open, first_line-longer}
+use Rattle.manu_serve.specs.Readings.{HasBadHeader, PassesLimit, HasReadCause, EndsReading, EndedReading, IsOpen, KnowsHeader, IsSoFar}
+
+first_is_short : (lines : List (List ℕ)) → AllByRecursion IsShort lines → IsShort (first_or_empty lines)
+first_is_short [] h = omega arith
+first_is_short (line ∷ lines) h = h.0
+
+-- line 1 ends at i, whatever comes behind
+module _ (bytes : List ℕ) (i : ℕ) (within : i < length bytes) (here : get_or bytes i 0 ≡ 10) (before : (k : ℕ) → k < i → get_or bytes k 0 ≢ 10) where
+  line : (rest : List ℕ) → first_line (bytes ++ rest) ≡ take i bytes
+  line rest = first_line-ended bytes rest i within here before
+
+  pub long_line : MAX_LINE < i → (rest : List ℕ) → PassesLimit (bytes ++ rest)
+  long_line long rest =
+      let size : length (first_line (bytes ++ rest)) ≡ length (take i bytes) = ap length (line rest) in
+      record {
+        past = λ w. omega (arith, first_is_short _ w.lines.0, size, length-take i bytes);
+        header = λ short. absurd (omega (arith, short, size, length-take i bytes));
+      }
+
+  pub bad_line : i ≤ MAX_LINE → header_of (take i bytes) ≡ None → (rest : List ℕ) → HasBadHeader (bytes ++ rest)
+  bad_line fits bad rest =
+      let size : length (first_line (bytes ++ rest)) ≡ length (take i bytes) = ap length (line rest) in
+      record {
+        short = omega (arith, size, length-take i bytes);
+        none = ap header_of (line rest) ∙ bad;
+      }
+
+  pub good_line : (collection : Collection) → header_of (take i bytes) ≡ Some collection → IsInRange collection → KnowsHeader bytes (Some collection)
+  good_line collection good valid = ((λ rest. ap header_of (line rest) ∙ good), valid)
+
+-- the limits on lines hold of what was read, where they are kept behind it
+pub kept_now : (bytes : List ℕ) (lines : ℕ) (current : Option ℕ) (found : Option Collection) → lines ≤ MAX_LINES → IsSoFar bytes lines current found → IsWithin bytes
+kept_now bytes lines None found few so_far =
+    record { bytes = so_far.size; lines = subst HasFewLines (append-nil bytes) ((so_far.limits []).1 (tt, omega arith)) }
+kept_now bytes lines (Some n) found few so_far =
+    record { bytes = so_far.size; lines = subst HasFewLines (append-nil bytes) ((so_far.limits []).1 tt) }
+
+few_open : (bytes : List ℕ) → IsOpen bytes → length bytes ≤ MAX_LINE → HasFewLines bytes
+few_open [] open fits = (tt, omega arith)
+few_open (b ∷ bytes) open fits = rw (lines_of-open (b ∷ bytes) (omega arith) open) ((fits, tt), omega arith)
+
+open_long : (bytes : List ℕ) → IsOpen bytes → (HasFewLines bytes → ⊥) → MAX_LINE < length bytes
+open_long bytes open over = let short : length bytes ≤ MAX_LINE → ⊥ = λ fits. over (few_open bytes open fits) in omega (arith, short)
+
+pub is_some_of : {T : Type 0} (o : Option T) (x : T) → o ≡ Some x → IsSome o
+is_some_of o x e = rw e tt
+
+-- where a line or their number passes a limit, line 1 is too long itself or makes a collection
+pub over_lines : (bytes : List ℕ) (found : Option Collection) → KnowsHeader bytes found → ((rest : List ℕ) → HasFewLines (bytes ++ rest) → ⊥) → (rest : List ℕ) → PassesLimit (bytes ++ rest)
+over_lines bytes None open over rest =
+    let long : MAX_LINE < length bytes = open_long bytes open (λ few. over [] (subst HasFewLines (sym (append-nil bytes)) few)) in
+    record { past = λ w. over rest w.lines; header = λ short. absurd (omega (arith, short, first_line-longer bytes rest open)) }
+over_lines bytes (Some collection) known over rest =
+    record { past = λ w. over rest w.lines; header = λ short. is_some_of _ collection (known.0 rest) }
+
+pub over_bytes : (bytes : List ℕ) (found : Option Collection) → KnowsHeader bytes found → MAX_INPUT < length bytes → (rest : List ℕ) → PassesLimit (bytes ++ rest)
+over_bytes bytes None open over rest =
+    record { past = λ w. omega (arith, w.bytes, length-append bytes rest); header = λ short. absurd (omega (arith, short, first_line-longer bytes rest open)) }
+over_bytes bytes (Some collection) known over rest =
+    record { past = λ w. omega (arith, w.bytes, length-append bytes rest); header = λ short. is_some_of _ collection (known.0 rest) }
+
+-- what was known of the first bytes is known of more
+pub known_longer : (bytes piece : List ℕ) (collection : Collection) → KnowsHeader bytes (Some collection) → KnowsHeader (bytes ++ piece) (Some collection)
+known_longer bytes piece collection known = ((λ rest. rw append_assoc (known.0 (piece ++ rest))), known.1)
+
+pub limits_longer : (bytes piece : List ℕ) (lines more : ℕ) (current next : Option ℕ)
+    → ((rest : List ℕ) → HasFewLines (bytes ++ rest) ↔ LimitsBehind lines current (lines_of rest))
+    → ((rest : List ℕ) → LimitsBehind lines current (lines_of (piece ++ rest)) ↔ LimitsBehind more next (lines_of rest))
+    → (rest : List ℕ) → HasFewLines ((bytes ++ piece) ++ rest) ↔ LimitsBehind more next (lines_of rest)
+limits_longer bytes piece lines more current next before step rest =
+    let h = before (piece ++ rest) in
+    let s = step rest in
+    rw append_assoc ((λ few. s.0 (h.0 few)), (λ kept. h.1 (s.1 kept)))
+
+pub limits_over : (bytes piece : List ℕ) (lines : ℕ) (current : Option ℕ)
+    → ((rest : List ℕ) → HasFewLines (bytes ++ rest) ↔ LimitsBehind lines current (lines_of rest))
+    → ((rest : List ℕ) → LimitsBehind lines current (lines_of (piece ++ rest)) → ⊥)
+    → (rest : List ℕ) → HasFewLines ((bytes ++ piece) ++ rest) → ⊥
+limits_over bytes piece lines current before over rest few = over rest ((before (piece ++ rest)).0 (rw append_assoc at few))
+
+-- ---- what a source has left
+
+pub none_consumed : (left : Option (List ℕ)) → Consumes left left []
+none_consumed None = tt
+none_consumed (Some bytes) = refl
+
+pub consumed_kept : (a b c : Option (List ℕ)) (piece : List ℕ) → Consumes a b piece → Keeps b c → Consumes a c piece
+consumed_kept None b c piece h k = tt
+consumed_kept (Some xs) None c piece h k = absurd h
+consumed_kept (Some xs) (Some ys) None piece h k = absurd k
+consumed_kept (Some xs) (Some ys) (Some zs) piece h k = h ∙ ap (λ l. piece ++ l) (sym k)
+
+pub consumed_more : (a b c : Option (List ℕ)) (bytes piece : List ℕ) → Consumes a b bytes → Consumes b c piece → Consumes a c (bytes ++ piece)
+consumed_more None b c bytes piece h k = tt
+consumed_more (Some xs) None c bytes piece h k = absurd h
+consumed_more (Some xs) (Some ys) None bytes piece h k = absurd k
+consumed_more (Some xs) (Some ys) (Some zs) bytes piece h k = h ∙ ap (λ l. bytes ++ l) k ∙ sym (append_assoc bytes piece zs)
+
+pub ends_cause : (error : ReadError) (a c : Option (List ℕ)) (bytes : List ℕ) (before now : ℕ) → EndsReading error bytes → Consumes a c bytes → HasReadCause error a before now
+ends_cause BadHeader None c bytes before now h k = tt
+ends_cause BadHeader (Some xs) None bytes before now h k = absurd k
+ends_cause BadHeader (Some xs) (Some ys) bytes before now h k = subst HasBadHeader (sym k) (h ys)
+ends_cause Limit None c bytes before now h k = tt
+ends_cause Limit (Some xs) None bytes before now h k = absurd k
+ends_cause Limit (Some xs) (Some ys) bytes before now h k = subst PassesLimit (sym k) (h ys)
+ends_cause Fault a c bytes before now h k = absurd h
+ends_cause Memory a c bytes before now h k = tt
+
+pub ended_cause : (error : ReadError) (a c : Option (List ℕ)) (bytes : List ℕ) (before now : ℕ) → EndedReading error bytes → Consumes a c bytes → IsAtEnd c → HasReadCause error a before now
+ended_cause BadHeader None c bytes before now h k e = tt
+ended_cause BadHeader (Some xs) None bytes before now h k e = absurd k
+ended_cause BadHeader (Some xs) (Some ys) bytes before now h k e = subst HasBadHeader (sym (k ∙ ap (λ l. bytes ++ l) e ∙ append-nil bytes)) h
+ended_cause Limit a c bytes before now h k e = absurd h
+ended_cause Fault a c bytes before now h k e = absurd h
+ended_cause Memory a c bytes before now h k e = tt
+
+rose_earlier : (before mid now : ℕ) → Rose mid now → before ≤ mid → Rose before now
+rose_earlier before mid now h later = omega arith
+
+pub fault_cause : (error : ReadError) (a : Option (List ℕ)) (before mid now : ℕ) → (error ≡ Fault) × Rose mid now → before ≤ mid → HasReadCause error a before now
+fault_cause error a before mid now h later = rw h.0 (rose_earlier before mid now h.1 later)

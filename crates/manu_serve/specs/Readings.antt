@@ -1,0 +1,57 @@
+-- What ends the reading of an input, in the order of its bytes.
+use Rattle.std.specs.Prelude.{◌≡◌, ◌≢◌, ◌↔◌, ℕ, ◌<◌, ◌≤◌, List, slice_index, ◌++◌, length, Option, Some, None, IsSome, IfSome}
+use Rattle.coarse_lists.specs.declared.collections.Collection.{Collection}
+use Rattle.coarse_lists.specs.Collections.{IsInRange}
+use Rattle.request_lines.specs.Headers.{header_of}
+use Rattle.input_lines.specs.declared.limits.TheConstants.{MAX_INPUT}
+use Rattle.input_lines.specs.Lines.{lines_of, first_line}
+use Rattle.input_lines.specs.Limits.{IsShort, HasFewLines, IsWithin, LimitsBehind}
+use Rattle.manu_edge.specs.Faults.{Rose}
+use Rattle.manu_serve.specs.declared.reading.ReadError.{ReadError}
+use Rattle.manu_serve.specs.declared.reading.ReadError.TheVariants.{BadHeader, Fault, Limit, Memory}
+
+-- line 1 ends before it is too long, and makes no collection
+pub record HasBadHeader (input : List ℕ) : Type 0 where
+  pub short : IsShort (first_line input)
+  pub none : header_of (first_line input) ≡ None
+
+-- a limit is passed, and line 1 did not end the reading before
+pub record PassesLimit (input : List ℕ) : Type 0 where
+  pub past : IsWithin input → ⊥
+  pub header : IsShort (first_line input) → IsSome (header_of (first_line input))
+
+-- what stands behind an error, of the bytes that the source had left, where it tells them, and its count of faults
+abbrev pub HasReadCause : ReadError → Option (List ℕ) → ℕ → ℕ → Type 0
+HasReadCause BadHeader left before now = IfSome left HasBadHeader
+HasReadCause Limit left before now = IfSome left PassesLimit
+HasReadCause Fault left before now = Rose before now
+HasReadCause Memory left before now = Unit {0}
+
+-- the same of an input of which these bytes are the first, whatever comes behind them
+abbrev pub EndsReading : ReadError → List ℕ → Type 0
+EndsReading BadHeader bytes = (rest : List ℕ) → HasBadHeader (bytes ++ rest)
+EndsReading Limit bytes = (rest : List ℕ) → PassesLimit (bytes ++ rest)
+EndsReading Fault bytes = ⊥
+EndsReading Memory bytes = Unit {0}
+
+-- the same of an input that has these bytes and has come to its end
+abbrev pub EndedReading : ReadError → List ℕ → Type 0
+EndedReading BadHeader bytes = HasBadHeader bytes
+EndedReading Limit bytes = ⊥
+EndedReading Fault bytes = ⊥
+EndedReading Memory bytes = Unit {0}
+
+-- no line has ended in these bytes
+abbrev pub IsOpen : List ℕ → Type 0
+IsOpen bytes = (k : ℕ) → k < length bytes → slice_index bytes k ≢ 10
+
+-- what is known of line 1: it has not ended, or it makes this collection
+abbrev pub KnowsHeader : List ℕ → Option Collection → Type 0
+KnowsHeader bytes None = IsOpen bytes
+KnowsHeader bytes (Some collection) = ((rest : List ℕ) → header_of (first_line (bytes ++ rest)) ≡ Some collection) × IsInRange collection
+
+-- what is known while the input comes
+pub record IsSoFar (bytes : List ℕ) (lines : ℕ) (current : Option ℕ) (found : Option Collection) : Type 0 where
+  pub size : length bytes ≤ MAX_INPUT
+  pub limits : (rest : List ℕ) → HasFewLines (bytes ++ rest) ↔ LimitsBehind lines current (lines_of rest)
+  pub header : KnowsHeader bytes found

@@ -1,0 +1,227 @@
+//! Reading an input to its end, or to the first event that ends it.
+
+ghost use Rattle.std.specs.Prelude.{◌≡◌, ◌⊎◌, ℕ, List, [], ◌++◌, ◌+◌, ◌≤◌, ◌<◌, length, take, IfOk, IfErr, OnErr, Some, None};
+ghost use Rattle.std.specs.Io.KnownBytes.{Consumes, IsAtEnd, Keeps};
+ghost use Rattle.input_lines.specs.Lines.{first_line};
+ghost use Rattle.input_lines.specs.Limits.{IsWithin};
+ghost use Rattle.coarse_lists.specs.Collections.{IsInRange};
+ghost use Rattle.request_lines.specs.Headers.{header_of};
+ghost use Rattle.manu_edge.specs.Faults.{Rose};
+ghost use Rattle.manu_serve.specs.Readings.{HasReadCause, EndsReading, EndedReading, IsOpen, KnowsHeader, IsSoFar};
+
+use coarse_lists::Collection;
+use input_lines::{MAX_INPUT, MAX_LINE, Progress, find_end};
+use manu_edge::{Failed, Source};
+use request_lines::{HeaderError, read_header};
+use row_types::Memory;
+use std::alloc::Global;
+
+/// Bytes that are asked of a source at once.
+const PIECE: usize = 1 << 18;
+
+/// Why an input was not read to its end.
+#[derive(Debug, Clone, Copy, PartialEq, Eq)]
+pub enum ReadError {
+    /// Line 1 has ended and is no `create` line.
+    BadHeader,
+    /// The source failed.
+    Fault,
+    /// The bytes, a line or the number of lines pass their limit.
+    Limit,
+    /// There was no memory to keep what was read.
+    Memory,
+}
+
+impl From<Memory> for ReadError {
+    fn from(_memory: Memory) -> ReadError {
+        ReadError::Memory
+    }
+}
+
+/// An input that was read to its end, and the collection that its line 1 makes.
+#[derive(Debug, Drop)]
+pub struct Input {
+    pub bytes: Vec<u8>,
+    pub collection: Collection,
+}
+
+/// Reads all that a source has left. The first event in the order of the bytes ends it: that line 1
+/// has ended and makes no collection, that a limit is passed, that the source fails, or the end. At
+/// most one byte more than an input may have is taken.
+pub fn read_input<S: Source>(alloc: Global, source: &mut S) -> Result<Input, ReadError>
+    ensures later { S.faults source.old ≤ S.faults source.new }
+    ensures bounded { (piece : List ℕ) × Consumes (S.left source.old) (S.left source.new) piece × (length piece ≤ MAX_INPUT + 1) }
+    ensures bytes { IfOk result (λ input. Consumes (S.left source.old) (S.left source.new) input.bytes.items × IsAtEnd (S.left source.new)) }
+    ensures within { IfOk result (λ input. IsWithin input.bytes.items) }
+    ensures header { IfOk result (λ input. header_of (first_line input.bytes.items) ≡ Some input.collection) }
+    ensures in_range { IfOk result (λ input. IsInRange input.collection) }
+    ensures cause { IfErr result (λ error. HasReadCause error (S.left source.old) (S.faults source.old) (S.faults source.new)) }
+{
+    let Ok(mut buffer) = vec![in alloc; 0u8; PIECE] else {
+        return Err(ReadError::Memory);
+    };
+    let mut reading = Reading::start(alloc);
+    'pieces: loop {
+        let count = read_piece(source, &mut buffer, reading.bytes.len())?;
+        if count == 0 {
+            return reading.finish(alloc);
+        }
+        reading = reading.take(alloc, &buffer[..count])?;
+    }
+}
+
+// Asks for a piece, of which at most one byte passes the limit on the input.
+fn read_piece<S: Source>(source: &mut S, buffer: &mut [u8], had: usize) -> Result<usize, ReadError>
+    requires had { had ≤ MAX_INPUT }
+    requires some { 0 < length buffer.old }
+    ensures later { S.faults source.old ≤ S.faults source.new }
+    ensures room { IfOk result (λ count. (count ≤ length buffer.new) × (had + count ≤ MAX_INPUT + 1)) }
+    ensures bytes { IfOk result (λ count. Consumes (S.left source.old) (S.left source.new) (take count buffer.new)) }
+    ensures end { IfOk result (λ count. count ≡ 0 → IsAtEnd (S.left source.new)) }
+    ensures cause { IfErr result (λ error. (error ≡ ReadError.Fault) × Rose (S.faults source.old) (S.faults source.new)) }
+    ensures kept { OnErr result (Keeps (S.left source.old) (S.left source.new)) }
+{
+    let room = buffer.len().min(MAX_INPUT + 1 - had);
+    match source.read(&mut buffer[..room]) {
+        Ok(count) => Ok(count),
+        Err(Failed) => Err(ReadError::Fault),
+    }
+}
+
+/// What was read so far.
+#[derive(Debug, Drop)]
+struct Reading {
+    bytes: Vec<u8>,
+    progress: Progress,
+    header: Option<Collection>,
+}
+
+impl Reading {
+    fn start(alloc: Global) -> Reading
+        ensures known { IsSoFar result.bytes.items result.progress.lines result.progress.current result.header }
+        ensures empty { result.bytes.items ≡ [] }
+    {
+        Reading {
+            bytes: Vec::new(alloc),
+            progress: Progress::start(),
+            header: None,
+        }
+    }
+
+    // Takes a piece in, unless the reading ends within it.
+    fn take(self, alloc: Global, piece: &[u8]) -> Result<Reading, ReadError>
+        requires known { IsSoFar self.bytes.items self.progress.lines self.progress.current self.header }
+        ensures known { IfOk result (λ after. IsSoFar after.bytes.items after.progress.lines after.progress.current after.header) }
+        ensures bytes { IfOk result (λ after. after.bytes.items ≡ self.bytes.items ++ piece.now) }
+        ensures ended { IfErr result (λ error. EndsReading error (self.bytes.items ++ piece.now)) }
+    {
+        let Reading {
+            mut bytes,
+            progress,
+            header,
+        } = self;
+        let from = bytes.len();
+        if bytes.extend_from_slice(piece).is_err() {
+            return Err(ReadError::Memory);
+        }
+        let header = match find_header(alloc, header, &bytes, from) {
+            Ok(header) => header,
+            Err(error) => return Err(error),
+        };
+        let Ok(progress) = progress.walk(piece) else {
+            return Err(ReadError::Limit);
+        };
+        if bytes.len() > MAX_INPUT {
+            return Err(ReadError::Limit);
+        }
+        Ok(Reading {
+            bytes,
+            progress,
+            header,
+        })
+    }
+
+    // The input, once it has come to its end.
+    fn finish(self, alloc: Global) -> Result<Input, ReadError>
+        requires known { IsSoFar self.bytes.items self.progress.lines self.progress.current self.header }
+        ensures bytes { IfOk result (λ input. input.bytes.items ≡ self.bytes.items) }
+        ensures within { IfOk result (λ input. IsWithin input.bytes.items) }
+        ensures header { IfOk result (λ input. header_of (first_line input.bytes.items) ≡ Some input.collection) }
+        ensures in_range { IfOk result (λ input. IsInRange input.collection) }
+        ensures ended { IfErr result (λ error. EndedReading error self.bytes.items) }
+    {
+        let Reading {
+            bytes,
+            progress: _,
+            header,
+        } = self;
+        match last_header(alloc, header, &bytes) {
+            Ok(collection) => Ok(Input { bytes, collection }),
+            Err(error) => Err(error),
+        }
+    }
+}
+
+// What is known of line 1 once more bytes have come; `header` is what was known of those before `from`.
+fn find_header(
+    alloc: Global,
+    header: Option<Collection>,
+    bytes: &[u8],
+    from: usize,
+) -> Result<Option<Collection>, ReadError>
+    requires from { from ≤ length bytes.now }
+    requires known { KnowsHeader (take from bytes.now) header }
+    ensures known { IfOk result (λ found. KnowsHeader bytes.now found) }
+    ensures ended { IfErr result (λ error. EndsReading error bytes.now) }
+{
+    match header {
+        Some(collection) => Ok(Some(collection)),
+        None => first_header(alloc, bytes, from),
+    }
+}
+
+// The collection of line 1, where that ends in these bytes; none of those before `from` is an LF.
+fn first_header(alloc: Global, bytes: &[u8], from: usize) -> Result<Option<Collection>, ReadError>
+    requires from { from ≤ length bytes.now }
+    requires open { IsOpen (take from bytes.now) }
+    ensures known { IfOk result (λ found. KnowsHeader bytes.now found) }
+    ensures ended { IfErr result (λ error. EndsReading error bytes.now) }
+{
+    let end = find_end(bytes, from);
+    if end == bytes.len() {
+        return Ok(None);
+    }
+    if end > MAX_LINE as usize {
+        return Err(ReadError::Limit);
+    }
+    match header_of_line(alloc, &bytes[..end]) {
+        Ok(collection) => Ok(Some(collection)),
+        Err(error) => Err(error),
+    }
+}
+
+// The collection of line 1, once the input has come to its end.
+fn last_header(alloc: Global, header: Option<Collection>, bytes: &[u8]) -> Result<Collection, ReadError>
+    requires known { KnowsHeader bytes.now header }
+    ensures ok { IfOk result (λ collection. header_of (first_line bytes.now) ≡ Some collection) }
+    ensures in_range { IfOk result IsInRange }
+    ensures err { IfErr result (λ error. (error ≡ ReadError.Memory) ⊎ ((error ≡ ReadError.BadHeader) × (header_of (first_line bytes.now) ≡ None))) }
+{
+    match header {
+        Some(collection) => Ok(collection),
+        None => header_of_line(alloc, bytes),
+    }
+}
+
+// The collection that a line makes.
+fn header_of_line(alloc: Global, line: &[u8]) -> Result<Collection, ReadError>
+    ensures ok { IfOk result (λ collection. header_of line.now ≡ Some collection) }
+    ensures in_range { IfOk result IsInRange }
+    ensures err { IfErr result (λ error. (error ≡ ReadError.Memory) ⊎ ((error ≡ ReadError.BadHeader) × (header_of line.now ≡ None))) }
+{
+    match read_header(alloc, line) {
+        Ok(collection) => Ok(collection),
+        Err(HeaderError::NotCreate) => Err(ReadError::BadHeader),
+        Err(HeaderError::Memory) => Err(ReadError::Memory),
+    }
+}

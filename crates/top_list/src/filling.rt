@@ -1,0 +1,112 @@
+//! A top list while it is filled.
+
+ghost use Rattle.std.specs.Prelude.{◌≡◌, ℕ, ℤ, ◌<◌, ◌^◌, ◌∷◌, ◌++◌, [], vec_len, vec_capacity, IfSome};
+ghost use Rattle.std.specs.declared.cmp.Ordering.TheVariants.{Less};
+ghost use Rattle.row_types.specs.declared.hits.Distance.TheVariants.{Hamming};
+ghost use Rattle.row_types.specs.Hits.{least, value_cmp};
+ghost use Rattle.top_list.specs.Kept.{IsBehindAll};
+
+use crate::buffers::{cut, is_behind, push_hit};
+use crate::tops::TopList;
+use row_types::{Distance, Hit};
+use std::marker::Model;
+
+/// A top list while it is filled: the hits that it would hold if it were settled now. Contracts see
+/// it as that list.
+///
+/// Most offers cost one comparison; a buffer is put in order each time that it is full.
+#[derive(Debug, Drop)]
+pub struct Gather {
+    k: u32,
+    hits: Vec<Hit>,
+    last: Option<Hit>,
+}
+
+impl Model for Gather {
+    ghost use Rattle.std.specs.Prelude.{vec_len, vec_capacity};
+    ghost use Rattle.row_types.specs.Hits.{least};
+    ghost use Rattle.top_list.specs.Kept.{Kept, IsFilling};
+
+    ghost Value = { Kept };
+
+    ghost view = { λ g. record { k = g.k; hits = least g.k g.hits.items } };
+
+    ghost invariant = { λ g. IsFilling g.k g.hits.items (vec_len g.hits) (vec_capacity g.hits) g.last };
+}
+
+impl Gather {
+    pub(crate) fn begin(k: u32, hits: Vec<Hit>) -> Gather
+        requires some { 0 < k }
+        requires room { k < vec_capacity hits }
+        requires free { vec_len hits < vec_capacity hits }
+        ensures { result ≡ record { k = k; hits = least k hits.items } }
+    {
+        Gather {
+            k,
+            hits,
+            last: None,
+        }
+    }
+
+    /// Puts the hits in order; takes no memory.
+    pub fn settle(self) -> TopList
+        ensures { result ≡ self }
+    {
+        TopList::settled(self.k, self.hits)
+    }
+
+    /// Offers a hit; takes no memory.
+    pub fn offer(&mut self, hit: Hit)
+        ensures k { self.new.k ≡ self.old.k }
+        ensures hits { self.new.hits ≡ least self.old.k (self.old.hits ++ hit ∷ []) }
+    {
+        if is_behind(self.last, &hit) {
+            return;
+        }
+        push_hit(&mut self.hits, hit);
+        if self.hits.len() == self.hits.capacity() {
+            self.last = cut(&mut self.hits, self.k);
+        }
+    }
+
+    /// Offers many hits; takes no memory.
+    pub fn offer_all(&mut self, hits: &[Hit])
+        ensures k { self.new.k ≡ self.old.k }
+        ensures hits { self.new.hits ≡ least self.old.k (self.old.hits ++ hits.now) }
+    {
+        let _ = &self.k;
+        for hit in hits {
+            self.offer(*hit);
+        }
+    }
+
+    /// A hit behind which nothing is kept any more, where one is known: there is none before the
+    /// first k hits, and it may be an earlier one than the last that is kept.
+    pub fn bar(&self) -> Option<Hit>
+        ensures own { self.now.hits ≡ least self.now.k self.now.hits }
+        ensures behind { IfSome result (IsBehindAll self.now) }
+    {
+        self.last
+    }
+
+    /// The greatest Hamming distance, in bits, that may still be kept; `u32::MAX` where any may.
+    pub fn limit(&self) -> u32
+        ensures own { self.now.hits ≡ least self.now.k self.now.hits }
+        ensures far { (d : ℕ) (key : ℤ) → result < d → d < 2 ^ 32 → least self.now.k (self.now.hits ++ record { distance = Hamming d; key = record { 0 = key } } ∷ []) ≡ self.now.hits }
+    {
+        match self.last {
+            Some(last) => reach(last.distance),
+            None => u32::MAX,
+        }
+    }
+}
+
+// The greatest Hamming distance that is not above a distance, as far as it is known without a division.
+fn reach(distance: Distance) -> u32
+    ensures { (d : ℕ) → result < d → d < 2 ^ 32 → value_cmp distance (Hamming d) ≡ Less }
+{
+    match distance {
+        Distance::Hamming(bits) => bits,
+        Distance::Jaccard { .. } => u32::MAX,
+    }
+}

@@ -1,0 +1,98 @@
+//! A top list that is in order at all times.
+
+ghost use Rattle.std.specs.Prelude.{◌≡◌, ◌<◌, ◌≤◌, ◌∷◌, ◌++◌, [], length, vec_capacity, IfOk};
+ghost use Rattle.std.specs.List.Sorted.{IsStrictlySortedBy};
+ghost use Rattle.row_types.specs.Hits.{hit_cmp, least, IsOneDistanceAKey, IsEachKeyOnce};
+ghost use Rattle.top_list.specs.Kept.{hits_of};
+
+use crate::buffers::{cut, place};
+use crate::filling::Gather;
+use row_types::{Hit, Memory};
+use std::alloc::Global;
+use std::marker::Model;
+
+/// The k least of the hits that were offered, in order. Contracts see k and these hits.
+///
+/// A hit that is offered twice is kept once. Where a key always has the same distance, each key is
+/// kept once.
+#[derive(Debug, Drop)]
+pub struct TopList {
+    k: u32,
+    hits: Vec<Hit>,
+}
+
+impl Model for TopList {
+    ghost use Rattle.std.specs.Prelude.{vec_capacity};
+    ghost use Rattle.top_list.specs.Kept.{Kept, IsTop};
+
+    ghost Value = { Kept };
+
+    ghost view = { λ t. record { k = t.k; hits = t.hits.items } };
+
+    ghost invariant = { λ t. IsTop t.k t.hits.items (vec_capacity t.hits) };
+}
+
+impl TopList {
+    /// A list with no hits, which is to keep the `k` least.
+    ///
+    /// It takes all the memory that it ever takes: 24 bytes for each of k + max(k, 64) hits.
+    pub fn new(alloc: Global, k: u32) -> Result<TopList, Memory>
+        requires some { 1 ≤ k }
+        requires bound { k ≤ 16384 }
+        ensures { IfOk result (λ list. list ≡ record { k = k; hits = [] }) }
+    {
+        let room = k as usize + (k as usize).max(64);
+        let hits = Vec::with_capacity(alloc, room)?;
+        Ok(TopList { k, hits })
+    }
+
+    /// Offers a hit; takes no memory. For many offers in a row take a [`Gather`].
+    pub fn offer(&mut self, hit: Hit)
+        ensures k { self.new.k ≡ self.old.k }
+        ensures hits { self.new.hits ≡ least self.old.k (self.old.hits ++ hit ∷ []) }
+        ensures each_key_once { IsOneDistanceAKey (self.old.hits ++ hit ∷ []) → IsEachKeyOnce self.new.hits }
+    {
+        place(&mut self.hits, self.k, hit);
+    }
+
+    /// The hits that are kept, in order.
+    pub fn hits(&self) -> &[Hit]
+        ensures hits { result.now ≡ self.now.hits }
+        ensures own { self.now.hits ≡ least self.now.k self.now.hits }
+        ensures rises { IsStrictlySortedBy hit_cmp self.now.hits }
+        ensures few { length self.now.hits ≤ self.now.k }
+        ensures each_key_once { IsOneDistanceAKey self.now.hits → IsEachKeyOnce self.now.hits }
+    {
+        self.hits.as_slice()
+    }
+
+    /// The same list, to be filled; takes no memory.
+    pub fn gather(self) -> Gather
+        ensures { result ≡ self }
+    {
+        Gather::begin(self.k, self.hits)
+    }
+
+    pub(crate) fn settled(k: u32, mut hits: Vec<Hit>) -> TopList
+        requires some { 0 < k }
+        requires room { k < vec_capacity hits }
+        ensures { result ≡ record { k = k; hits = least k hits.items } }
+    {
+        let _last = cut(&mut hits, k);
+        TopList { k, hits }
+    }
+
+    /// The `k` least of the hits of all these lists.
+    pub fn merge(alloc: Global, lists: &[TopList], k: u32) -> Result<TopList, Memory>
+        requires some { 1 ≤ k }
+        requires bound { k ≤ 16384 }
+        ensures least { IfOk result (λ list. list ≡ record { k = k; hits = least k (hits_of lists.now) }) }
+        ensures each_key_once { IfOk result (λ list. IsOneDistanceAKey (hits_of lists.now) → IsEachKeyOnce list.hits) }
+    {
+        let mut gather = TopList::new(alloc, k)?.gather();
+        'lists: for list in lists {
+            gather.offer_all(list.hits());
+        }
+        Ok(gather.settle())
+    }
+}
