@@ -1,4 +1,5 @@
 mod EscapeLaws
+mod KindLaws
 mod Lexing
 mod Rules
 mod SignLaws

@@ -4,7 +4,8 @@
 //! place where the text leaves the language.
 #![tactic(auto)]
 
-ghost use Rattle.std.specs.Prelude.{◌≡◌, ◌⊎◌, Ok, Err, IfOk, IfErr};
+ghost use Rattle.std.specs.Prelude.{◌≡◌, ◌⊎◌, Ok, Err, IfOk, IfErr, IsTrue};
+ghost use Rattle.row_types.specs.Schemas.{fits};
 ghost use Rattle.filter_expr.specs.Grammar.{filter_of};
 ghost use Rattle.filter_expr.specs.Printing.{text_of};
 
@@ -29,8 +30,18 @@ const MOST_OPEN: u32 = 32;
 
 /// The filter that a text spells, over the columns of a schema. A refusal tells the first place
 /// where the text leaves the language.
-#[tactic(auto, unfolding(crate::specs::Grammar::filter_of))]
+#[tactic(auto, using(crate::proofs::KindLaws::filter_fits))]
 pub fn parse(alloc: Global, text: &Text, schema: &Schema) -> Result<Filter, FilterError>
+    ensures ok { IfOk result (λ filter. filter_of schema.now.columns text.now ≡ Ok filter) }
+    ensures err { IfErr result (λ e. (e ≡ FilterError.Memory) ⊎ (filter_of schema.now.columns text.now ≡ Err e)) }
+    // Each operand is there, and each operator and literal fits its kind.
+    ensures of_schema { IfOk result (λ filter. IsTrue (fits schema.now.columns filter)) }
+{
+    read(alloc, text, schema)
+}
+
+#[tactic(auto, unfolding(crate::specs::Grammar::filter_of))]
+fn read(alloc: Global, text: &Text, schema: &Schema) -> Result<Filter, FilterError>
     ensures ok { IfOk result (λ filter. filter_of schema.now.columns text.now ≡ Ok filter) }
     ensures err { IfErr result (λ e. (e ≡ FilterError.Memory) ⊎ (filter_of schema.now.columns text.now ≡ Err e)) }
 {
