@@ -1,12 +1,10 @@
 -- What a filter means: which rows pass it, and of which columns it may speak.
-use Rattle.std.specs.Prelude.{ℕ, ◌==◌, nat_le, Bool, true, false, not, ◌&&◌, ◌||◌, List, [], ◌∷◌, length, map, slice_get, Option, Some, None}
+use Rattle.std.specs.Prelude.{Bool, true, false, not, List, map, slice_get, Option, Some, None}
 use Rattle.std.specs.List.{list_any, list_all}
 use Rattle.std.specs.Ordering.{nat_cmp, int_cmp, bool_cmp, is_eq, is_ne, is_lt, is_le, is_gt, is_ge}
 use Rattle.std.specs.Cmp.Lexicographic.{slice_cmp}
 use Rattle.std.specs.declared.cmp.Ordering.{Ordering}
 use Rattle.row_types.specs.declared.rows.Row.{Row}
-use Rattle.row_types.specs.declared.rows.Kind.{Kind}
-use Rattle.row_types.specs.declared.rows.Kind.TheVariants as kind
 use Rattle.row_types.specs.declared.rows.Field.{Field}
 use Rattle.row_types.specs.declared.rows.Field.TheVariants as field
 use Rattle.row_types.specs.declared.filters.Operand.{Operand}

@@ -1,5 +1,5 @@
 -- What stands in a row for fields that are given by name, and which filters speak of a schema's columns.
-use Rattle.std.specs.Prelude.{◌≡◌, ℕ, nat_le, Bool, true, false, not, ◌&&◌, List, [], ◌∷◌, ◌++◌, length, map, position, remove, slice_get, Option, Some, None, Result, Ok, Err, if◌then◌else◌}
+use Rattle.std.specs.Prelude.{ℕ, nat_le, Bool, true, false, ◌&&◌, List, [], ◌∷◌, ◌++◌, length, position, remove, slice_get, Option, Some, None, Result, Ok, Err, if◌then◌else◌}
 use Rattle.std.specs.Option.{option_map}
 use Rattle.std.specs.List.{list_all}
 use Rattle.std.specs.Str.{bytes_eq}
@@ -12,7 +12,7 @@ use Rattle.row_types.specs.declared.schemas.FieldError.TheVariants.{Missing, Wro
 use Rattle.row_types.specs.declared.filters.Operand.{Operand}
 use Rattle.row_types.specs.declared.filters.Operand.TheVariants.{Key, Column}
 use Rattle.row_types.specs.declared.filters.CompareOp.{CompareOp}
-use Rattle.row_types.specs.declared.filters.CompareOp.TheVariants.{Equal, NotEqual, Less, LessEqual, Greater, GreaterEqual}
+use Rattle.row_types.specs.declared.filters.CompareOp.TheVariants.{Equal, NotEqual}
 use Rattle.row_types.specs.declared.filters.Filter.{Filter}
 use Rattle.row_types.specs.declared.filters.Filter.TheOpen.{Filter-F}
 use Rattle.row_types.specs.declared.filters.Filter.TheFolds.{fold-Filter}

@@ -135,16 +135,16 @@ mod tests {
         let schema = Schema {
             columns: List::of(columns),
         };
-        let mut fields = Vec::new(alloc);
+        let mut pairs = Vec::new(alloc);
         for (name, is_number) in given {
             let value = if *is_number {
                 Field::Int(2021)
             } else {
                 Field::Text(Text::copied(alloc, "en")?)
             };
-            fields.push((Text::copied(alloc, *name)?, value))?;
+            pairs.push((Text::copied(alloc, *name)?, value))?;
         }
-        schema.arrange(alloc, fields)
+        schema.arrange(alloc, pairs)
     }
 
     fn told(outcome: Result<List<Field>, FieldError>) -> &'static str {

@@ -1,0 +1,6 @@
+mod EscapeLaws
+mod KindLaws
+mod Lexing
+mod Rules
+mod SignLaws
+mod Turns
