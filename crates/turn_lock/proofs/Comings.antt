@@ -7,12 +7,12 @@ use mathlib.Core.List.{map-append}
 use lib.ListN.{get_elem?, length-map, length-replicate}
 use lib.Seq.{drop-append_seam}
 use Rattle.std.specs.Prelude.{Option, Some, None}
-use Rattle.atomic_table.specs.Table.{State, Splits, Joins, opening, Final, Seen}
+use Rattle.atomic_table.specs.Table.{Splits, Joins, opening, Final, Seen}
 use Rattle.atomic_table.proofs.Lists.{at_map}
 use Rattle.turn_lock.specs.Client.{Homes, all_home, Forks, Merges, AllHome, Ended}
 use Rattle.turn_lock.specs.declared.tickets.Doing.{Doing}
 use Rattle.turn_lock.specs.declared.tickets.Ticket.{Ticket}
-use Rattle.turn_lock.specs.Tickets.{client, doing, Has, IsPlaced, Lined, Ticketed}
+use Rattle.turn_lock.specs.Tickets.{client, doing, Has, IsPlaced, Ticketed}
 use Rattle.turn_lock.proofs.Entries.{has_more}
 use Rattle.turn_lock.proofs.Lines.{lined_same, lined_more}
 

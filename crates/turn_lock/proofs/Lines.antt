@@ -1,5 +1,5 @@
 -- Each step keeps the rule of the tickets.
-use Rattle.std.proofs.Common.{◌≡◌, ℕ, zero, suc, ◌+◌, ◌-◌, ◌<◌, ◌≤◌, ◌≢◌, ◌⊎◌, List, [], ◌∷◌, ◌++◌, map, length, get_or, set, sym, refl, ap, ap₂, ◌∙◌, subst, inl, inr, ⊎_elim, arith, length-set, get_or-set_other, get_or-set_same}
+use Rattle.std.proofs.Common.{◌≡◌, ℕ, zero, suc, ◌+◌, ◌-◌, ◌<◌, ◌≤◌, ◌≢◌, List, [], ◌∷◌, ◌++◌, length, get_or, set, sym, refl, ap, ◌∙◌, subst, ⊎_elim, arith, length-set, get_or-set_other, get_or-set_same}
 use mathlib.Core.Option.{none, some, some-injective, some-ne-none}
 use mathlib.Core.Option as maybe
 use mathlib.Core.Logic.{dite}
@@ -12,8 +12,8 @@ use Rattle.turn_lock.specs.declared.tickets.Doing.{Doing}
 use Rattle.turn_lock.specs.declared.tickets.Ticket.{Ticket}
 use Rattle.turn_lock.specs.declared.tickets.Stage.{Stage}
 use Rattle.turn_lock.specs.declared.tickets.Stage.TheVariants.{Waiting, Inside}
-use Rattle.turn_lock.specs.Tickets.{waiting, inside, Has, taken, served, Stands, Sits, IsPlaced, Apart, Lined}
-use Rattle.turn_lock.proofs.Entries.{within, has_set, has_here, has_else, has_mine, has_at, has_same, has_still, Follows, apart_after, First, has_first, apart_first, shift, follows_swapped, Behind, has_behind, follows_behind, has_more, has_longer}
+use Rattle.turn_lock.specs.Tickets.{waiting, inside, Has, Stands, Sits, IsPlaced, Lined}
+use Rattle.turn_lock.proofs.Entries.{within, has_set, has_here, has_else, has_mine, has_same, has_still, apart_after, has_first, apart_first, shift, follows_swapped, Behind, has_behind, follows_behind, has_more, has_longer}
 
 not_both : (P : Type 0) → Waiting ≡ Inside → P
 not_both P e = absurd (subst (λ (st : Stage). elim st as (λ _. Type 0) [ Waiting ↦ Unit {0} | Inside ↦ ⊥ ]) e tt)

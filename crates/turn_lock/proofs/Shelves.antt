@@ -1,13 +1,11 @@
 -- How values move between a vector and the slots of a table.
-use Rattle.std.proofs.Common.{◌≡◌, ℕ, zero, suc, ◌+◌, ◌<◌, ◌≤◌, List, [], ◌∷◌, ◌++◌, map, length, get_or, drop, take, replicate, set, sym, refl, ap, ◌∙◌, subst, arith, append-nil}
+use Rattle.std.proofs.Common.{◌≡◌, ℕ, zero, suc, ◌+◌, ◌<◌, List, [], ◌∷◌, ◌++◌, map, length, get_or, drop, take, set, sym, refl, ap, ◌∙◌, subst, arith}
 use Rattle.std.proofs.lemmas.List.{map-append, reverse-append, get_or-drop}
 use Rattle.std.proofs.lemmas.Option.{same_Some}
-use lib.ListN.{length-replicate}
-use lib.Seq.{drop-append_seam}
 use mathlib.Core.Option.{some, some-injective, some-ne-none}
 use mathlib.Core.List.{reverse, append_assoc}
 use lib.ListN.{get_elem?}
-use Rattle.std.specs.Prelude.{Option, Some, None, IsSome, Bool, false}
+use Rattle.std.specs.Prelude.{Option, Some, IsSome, Bool, false}
 
 pub same_all : {S : Type 0} (xs ys : List S) → map Some xs ≡ map Some ys → xs ≡ ys
 same_all [] [] e = refl

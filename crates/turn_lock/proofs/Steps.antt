@@ -1,5 +1,5 @@
 -- Each step of the lock may be taken, and what it tells.
-use Rattle.std.proofs.Common.{◌≡◌, ℕ, zero, suc, ◌+◌, ◌<◌, ◌≤◌, ◌≢◌, ◌^◌, eqb, List, [], ◌∷◌, map, length, get_or, drop, set, sym, refl, ap, ◌∙◌, subst, arith}
+use Rattle.std.proofs.Common.{◌≡◌, ℕ, ◌+◌, ◌<◌, ◌≢◌, ◌^◌, eqb, List, ◌∷◌, map, get_or, drop, set, sym, refl, ap, ◌∙◌, subst, arith}
 use Rattle.std.proofs.lemmas.List.{get_or-drop, drop-set-lt, drop-set-add, map-set, set-get_or}
 use Rattle.std.proofs.lemmas.Option.{same_Some}
 use mathlib.Core.Option.{none, some, some-injective}
@@ -7,14 +7,14 @@ use mathlib.Core.Logic.{dite}
 use native.Mathlib.Decide.{ℕ_discrete}
 use prog.Atomic.{either}
 use lib.ListN.{get_elem?}
-use Rattle.std.specs.Prelude.{Option, Some, None}
+use Rattle.std.specs.Prelude.{Option, Some}
 use Rattle.atomic_table.specs.Table.{State, Me, step, Act, keeps, takes, gives, rest, put_back, Valid, carried_after, stepped, Allows}
 use Rattle.atomic_table.proofs.Lists.{at_map, set_again, exchanged}
-use Rattle.turn_lock.specs.Client.{Homes, IsHome, IsOut, Gains, Gives, Moves, MovesOut}
+use Rattle.turn_lock.specs.Client.{Homes, Gains, Gives, Moves, MovesOut}
 use Rattle.turn_lock.specs.declared.tickets.Doing.{Doing}
 use Rattle.turn_lock.specs.declared.tickets.Ticket.{Ticket}
-use Rattle.turn_lock.specs.Tickets.{waiting, inside, client, doing, Has, Lined, Ticketed}
-use Rattle.turn_lock.specs.Plays.{SameTurns, queued, Served, looked, passed, moved, marked}
+use Rattle.turn_lock.specs.Tickets.{waiting, inside, client, doing, Ticketed}
+use Rattle.turn_lock.specs.Plays.{queued, Served, looked, passed, moved, marked}
 use Rattle.turn_lock.proofs.Lines.{lined_words, lined_same, lined_queued, is_home, lined_served, lined_passed}
 
 same_rest : {A : Type 0} (x y : A) (xs ys : List A) → x ∷ xs ≡ y ∷ ys → (x ≡ y) × (xs ≡ ys)

@@ -17,3 +17,6 @@ mod words;
 pub use crate::locks::{Turn, TurnLock};
 pub use crate::protocol::{Counts, Join, Learns, Leaves, Protocol, Split, Takes};
 pub use crate::tickets::{Doing, Pass, Stage, Ticket};
+
+#[cfg(test)]
+mod tests;

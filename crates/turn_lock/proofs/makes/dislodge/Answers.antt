@@ -1,4 +1,4 @@
-use Rattle.std.proofs.Common.{rules, sym, ap, ◌∙◌, ◌++◌, ◌∷◌, [], map, reverse, Some}
+use Rattle.std.proofs.Common.{rules, sym, ap, ◌∙◌, ◌++◌, map, reverse, Some}
 use Rattle.std.proofs.lemmas.Option.{none-some}
 use Rattle.turn_lock.proofs.Shelves.{last_some, back}
 use Rattle.turn_lock.proofs.makes.dislodge.Goals as goal

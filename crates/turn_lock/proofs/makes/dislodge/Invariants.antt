@@ -1,4 +1,4 @@
-use Rattle.std.proofs.Common.{◌≡◌, ◌+◌, ◌≤◌, List, ◌++◌, map, length, reverse}
+use Rattle.std.proofs.Common.{◌≡◌, ◌+◌, ◌≤◌, List, ◌++◌, map, reverse}
 use Rattle.std.specs.Prelude.{Some, vec_len, vec_capacity}
 use Rattle.turn_lock.proofs.makes.dislodge.Given as goal
 

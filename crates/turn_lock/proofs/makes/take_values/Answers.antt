@@ -1,7 +1,6 @@
-use Rattle.std.proofs.Common.{rules, arith, sym, ap, subst, ◌∙◌, ◌≡◌, ◌<◌, ℕ, ◌++◌, ◌∷◌, [], map, Some, get_or, false, get_or-set_other}
-use mathlib.Core.Option.{some}
+use Rattle.std.proofs.Common.{rules, arith, sym, ap, subst, ◌∙◌, ◌<◌, ℕ, get_or, false, get_or-set_other}
 use lib.ListN.{get_elem?}
-use Rattle.std.specs.Slots.{slots_items, slots_filled, slots_len}
+use Rattle.std.specs.Slots.{slots_items, slots_filled}
 use Rattle.turn_lock.proofs.Shelves.{some_at, is_there, more_taken, emptied_more}
 use Rattle.turn_lock.proofs.makes.take_values.Goals as goal
 

@@ -1,4 +1,4 @@
-use Rattle.std.proofs.Common.{◌≡◌, ℕ, ◌+◌, ◌≤◌, ◌<◌, List, map, length, take, true, false, get_or}
+use Rattle.std.proofs.Common.{◌≡◌, ℕ, ◌≤◌, ◌<◌, map, take, true, false, get_or}
 use Rattle.std.specs.Prelude.{Some, vec_len, vec_capacity}
 use Rattle.std.specs.Slots.{slots_items, slots_filled, slots_len}
 use Rattle.turn_lock.proofs.makes.take_values.Given as goal

@@ -1,4 +1,4 @@
-use Rattle.std.proofs.Common.{rules, List, ◌+◌, sym, ap, subst, ◌∙◌, drop}
+use Rattle.std.proofs.Common.{List, ◌+◌, sym, subst, ◌∙◌, drop}
 use Rattle.std.specs.Slots.{slots_items, slots_counts}
 use Rattle.turn_lock.specs.Client.{Ended}
 use Rattle.turn_lock.proofs.Comings.{ends}

@@ -1,4 +1,4 @@
-use Rattle.std.proofs.Common.{rules, refl, ap, subst, sym, ◌∙◌, [], ◌∷◌, ℕ, ◌+◌, ◌%◌, ◌^◌, Some}
+use Rattle.std.proofs.Common.{rules, ap, sym, ◌∙◌, [], ◌∷◌, ℕ, ◌+◌, ◌%◌, ◌^◌, Some}
 use Rattle.atomic_table.specs.Table.{rest}
 use Rattle.turn_lock.proofs.Steps.{marks_again}
 use Rattle.turn_lock.proofs.locks.TurnLock.count_as.Goals as goal

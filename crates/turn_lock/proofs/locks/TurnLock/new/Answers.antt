@@ -1,4 +1,4 @@
-use Rattle.std.proofs.Common.{rules, sym, ap, ◌∙◌}
+use Rattle.std.proofs.Common.{rules}
 use Rattle.turn_lock.proofs.Comings.{opens}
 use Rattle.turn_lock.proofs.Shelves.{same_all}
 use Rattle.turn_lock.proofs.locks.TurnLock.new.Goals as goal

@@ -1,4 +1,4 @@
-use Rattle.std.proofs.Common.{rules, ℕ}
+use Rattle.std.proofs.Common.{rules}
 use Rattle.turn_lock.proofs.Steps.{reads}
 use Rattle.turn_lock.proofs.locks.TurnLock.read_as.Goals as goal
 

@@ -1,4 +1,4 @@
-use Rattle.std.proofs.Common.{rules, ℕ, ◌+◌, ◌%◌, ◌^◌, max}
+use Rattle.std.proofs.Common.{rules}
 use Rattle.turn_lock.proofs.Steps.{moves}
 use Rattle.turn_lock.proofs.locks.TurnLock.write_as.Goals as goal
 
