@@ -1,5 +1,5 @@
 -- Lists read by place, and functions changed at one place.
-use Rattle.std.proofs.Common.{◌≡◌, ℕ, zero, suc, ◌<◌, ◌≤◌, ◌≢◌, ◌⊎◌, cond, Bool, eq-eqb, ne_eqb, List, [], ◌∷◌, ◌++◌, length, set, refl, ap, sym, inl, inr, ⊎_elim, arith, subst}
+use Rattle.std.proofs.Common.{◌≡◌, ℕ, zero, suc, ◌<◌, ◌≤◌, ◌≢◌, ◌⊎◌, cond, Bool, eq-eqb, ne_eqb, List, [], ◌∷◌, ◌++◌, length, set, refl, ap, sym, inl, inr, ⊎_elim, arith, subst, ◌∙◌}
 use Rattle.std.proofs.lemmas.Bool.{cases_lt}
 use mathlib.Core.Option.{some-injective, some-ne-none}
 use lib.ListN.{get_elem?}
@@ -65,3 +65,14 @@ module _ {A : Type 0} where
   pub put_else : (f : ℕ → A) (k : ℕ) (a : A) (j : ℕ) → j ≢ k → put f k a j ≡ f j
   unfolding put
   put_else f k a j n = ap (λ (b : Bool). cond b a (f j)) (ne_eqb j k n)
+
+  -- the same where only the other places matter
+  pub each_set_else : (P : A → Type 0) (l : List A) (i : ℕ) (a : A) → ((j : ℕ) (b : A) → j ≢ i → IsAt l j b → P b) → P a → (j : ℕ) (b : A) → IsAt (set l i a) j b → P b
+  each_set_else P l i a h p j b e = ⊎_elim (λ t. subst P t.1 p) (λ t. h j b t.0 t.1) (at_set l i j a b e)
+
+  -- what holds at some place still does where what holds of the old element holds of the new one
+  pub some_set : (Q : A → Type 0) (l : List A) (i : ℕ) (a b : A) → IsAt l i a → (Q a → Q b) → (j : ℕ) (c : A) → IsAt l j c → Q c → (j' : ℕ) × (c' : A) × IsAt (set l i b) j' c' × Q c'
+  some_set Q l i a b e f j c d q =
+    ⊎_elim (λ (p : j ≡ i). let at_i : IsAt l i c = subst (λ (n : ℕ). IsAt l n c) p d in let same : c ≡ a = at_one l i c a at_i e in (i, b, at_here l i b (at_below l i a e), f (subst Q same q)))
+    (λ (p : j ≢ i). (j, c, at_else l i j b p ∙ d, q))
+    (same_or j i)

@@ -1,0 +1,6 @@
+pub mod Drawing
+pub mod Measuring
+pub mod Owning
+pub mod Seeing
+pub mod Sharing
+pub mod Summing
