@@ -1,6 +1,6 @@
 -- What a client of the lock shows for each step, over plain lists: its words, the values at home, and what each seat knows.
 -- `holds words homes knowns` is the client's rule. Each seat has a number, and `knowns` at that number is what it knows.
-use Rattle.std.specs.Prelude.{◌≡◌, ◌≢◌, ℕ, ◌<◌, ◌^◌, List, [], ◌∷◌, ◌++◌, length, map, slice_index_or, slice_set, Option, Some}
+use Rattle.std.specs.Prelude.{◌≡◌, ◌≢◌, ℕ, ◌<◌, ◌^◌, List, [], ◌∷◌, ◌++◌, map, slice_index_or, slice_set, Option, Some}
 use mathlib.Core.Option.{none, some}
 use mathlib.Core.Option as maybe
 use lib.ListN.{get_elem?}
@@ -34,12 +34,12 @@ module _ {S C : Type 0} (holds : List ℕ → Homes S → List C → Type 0) whe
 
   -- the same when the word i becomes f of what it was
   abbrev pub Moves : ℕ → C → ℕ → (ℕ → ℕ) → (ℕ → C → Type 0) → Type 0
-  Moves id v i f then = (ws : List ℕ) (hs : Homes S) (vs : List C) → holds ws hs vs → get_elem? vs id ≡ some v → i < length ws → slice_index_or ws i 0 < 2 ^ 64
+  Moves id v i f then = (ws : List ℕ) (hs : Homes S) (vs : List C) → holds ws hs vs → get_elem? vs id ≡ some v → slice_index_or ws i 0 < 2 ^ 64
       → (w : C) × holds (slice_set ws i (f (slice_index_or ws i 0))) hs (slice_set vs id w) × then (slice_index_or ws i 0) w
 
   -- the same while the value of the slot k is out
   abbrev pub MovesOut : ℕ → C → ℕ → ℕ → (ℕ → ℕ) → (ℕ → C → Type 0) → Type 0
-  MovesOut id v k i f then = (ws : List ℕ) (hs : Homes S) (vs : List C) → holds ws hs vs → get_elem? vs id ≡ some v → IsOut hs k → i < length ws → slice_index_or ws i 0 < 2 ^ 64
+  MovesOut id v k i f then = (ws : List ℕ) (hs : Homes S) (vs : List C) → holds ws hs vs → get_elem? vs id ≡ some v → IsOut hs k → slice_index_or ws i 0 < 2 ^ 64
       → (w : C) × holds (slice_set ws i (f (slice_index_or ws i 0))) hs (slice_set vs id w) × then (slice_index_or ws i 0) w
 
   -- what the seat id knows is cut in two, and a new seat has the second
