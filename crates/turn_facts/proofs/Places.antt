@@ -1,7 +1,7 @@
 -- Lists read by place, and functions changed at one place.
-use Rattle.std.proofs.Common.{◌≡◌, ℕ, zero, suc, ◌<◌, ◌≤◌, ◌≢◌, ◌⊎◌, cond, Bool, eq-eqb, ne_eqb, List, [], ◌∷◌, ◌++◌, length, set, refl, ap, sym, inl, inr, ⊎_elim, arith, subst, ◌∙◌}
+use Rattle.std.proofs.Common.{◌≡◌, ℕ, zero, suc, map, get_or, ◌<◌, ◌≤◌, ◌≢◌, ◌⊎◌, cond, Bool, eq-eqb, ne_eqb, List, [], ◌∷◌, ◌++◌, length, set, refl, ap, sym, inl, inr, ⊎_elim, arith, subst, ◌∙◌}
 use Rattle.std.proofs.lemmas.Bool.{cases_lt}
-use mathlib.Core.Option.{some-injective, some-ne-none}
+use mathlib.Core.Option.{some, some-injective, some-ne-none}
 use lib.ListN.{get_elem?}
 use Rattle.turn_facts.specs.Prefixes.{IsAt, put}
 
@@ -76,3 +76,30 @@ module _ {A : Type 0} where
     ⊎_elim (λ (p : j ≡ i). let at_i : IsAt l i c = subst (λ (n : ℕ). IsAt l n c) p d in let same : c ≡ a = at_one l i c a at_i e in (i, b, at_here l i b (at_below l i a e), f (subst Q same q)))
     (λ (p : j ≢ i). (j, c, at_else l i j b p ∙ d, q))
     (same_or j i)
+
+  pub at_get : (l : List A) (k : ℕ) (a d : A) → IsAt l k a → get_or l k d ≡ a
+  at_get [] k a d e = absurd (some-ne-none a (sym e))
+  at_get (x ∷ xs) zero a d e = some-injective x a e
+  at_get (x ∷ xs) (suc k) a d e = at_get xs k a d e
+
+  pub at_some : (l : List A) (k : ℕ) → k < length l → (a : A) × IsAt l k a
+  at_some [] k h = absurd (omega arith)
+  at_some (x ∷ xs) zero h = (x, refl)
+  at_some (x ∷ xs) (suc k) h = at_some xs k (omega arith)
+
+  -- lists of one length are equal where they are so at each place
+  pub same_lists : (l m : List A) → length l ≡ length m → ((k : ℕ) (a b : A) → IsAt l k a → IsAt m k b → a ≡ b) → l ≡ m
+  same_lists [] [] e h = refl
+  same_lists [] (y ∷ m) e h = absurd (omega arith)
+  same_lists (x ∷ l) [] e h = absurd (omega arith)
+  same_lists (x ∷ l) (y ∷ m) e h = let p : x ≡ y = h 0 x y refl refl in let q : l ≡ m = same_lists l m (omega arith) (λ k a b. h (suc k) a b) in cc
+
+  pub at_map : {B : Type 0} (f : A → B) (l : List A) (k : ℕ) (a : A) → IsAt l k a → IsAt (map f l) k (f a)
+  at_map f [] k a e = absurd (some-ne-none a (sym e))
+  at_map f (x ∷ xs) zero a e = ap (λ (y : A). some (f y)) (some-injective x a e)
+  at_map f (x ∷ xs) (suc k) a e = at_map f xs k a e
+
+  pub at_map_back : {B : Type 0} (f : A → B) (l : List A) (k : ℕ) (b : B) → IsAt (map f l) k b → (a : A) × IsAt l k a × (f a ≡ b)
+  at_map_back f [] k b e = absurd (some-ne-none b (sym e))
+  at_map_back f (x ∷ xs) zero b e = (x, refl, some-injective (f x) b e)
+  at_map_back f (x ∷ xs) (suc k) b e = at_map_back f xs k b e

@@ -1,5 +1,7 @@
 pub mod Drawing
+pub mod Ending
 pub mod Measuring
+pub mod Opening
 pub mod Owning
 pub mod Seeing
 pub mod Sharing

@@ -59,7 +59,7 @@ module _ {S N B : Type 0} (journal : S → List N) (base : S → B) (number : N 
 
   pub counts : (id : ℕ) (v : Know N B) (k more : ℕ) (l : List N) → v.live ≡ true → Among k v.inside → Adds number time v.number (drop v.mark v.drawn) (at_slot v.seen k) l → more + length (at_slot v.seen k) ≡ length l → length l < 2 ^ 56
       → MovesOut (Kept journal base number time) id v k (k + 2) (λ n. (n + more) % 2 ^ 64) (λ found w. w ≡ counted v k l)
-  counts id v k more l live ins adds len few ws hs vs s e out inside small =
+  counts id v k more l live ins adds len few ws hs vs s e out small =
     let w : Know N B = counted v k l in
     let t : Truth N B = s.truth in
     let sv : SeesAll t (length hs) v = s.shown.views id v e in
@@ -100,13 +100,14 @@ module _ {S N B : Type 0} (journal : S → List N) (base : S → B) (number : N 
     }, refl)
 
   pub draws : (id : ℕ) (v : Know N B) → v.live ≡ true → 1 ≤ v.allowance → Moves (Kept journal base number time) id v 0 (λ n. (n + 1) % 2 ^ 64) (Drew time v)
-  draws id v live one ws hs vs s e inside small =
+  draws id v live one ws hs vs s e small =
+    let inside : 1 < length ws = let wide : length ws ≡ length hs + 2 = s.lengths.wide in omega arith in
     let x : ℕ = clock ws in
     let w : Know N B = drew v x in
     let t : Truth N B = s.truth in
     let low : x < 2 ^ 63 + 2 ^ 61 = clock_low s.sums in
     let ws' : List ℕ = set ws 0 ((x + 1) % 2 ^ 64) in
-    let now : clock ws' ≡ x + 1 = word_same ws 0 ((x + 1) % 2 ^ 64) inside ∙ mod-eq_of_lt (omega arith) in
+    let now : clock ws' ≡ x + 1 = word_same ws 0 ((x + 1) % 2 ^ 64) (omega arith) ∙ mod-eq_of_lt (omega arith) in
     let next_same : next_seat ws' ≡ next_seat ws = get_or-set_other ws 0 1 ((x + 1) % 2 ^ 64) 0 (λ p. omega arith) in
     let sv : SeesAll t (length hs) v = s.shown.views id v e in
     (w, record {
@@ -126,11 +127,12 @@ module _ {S N B : Type 0} (journal : S → List N) (base : S → B) (number : N 
     })
 
   pub lifts : (id : ℕ) (v : Know N B) (least : ℕ) → v.live ≡ true → least < 2 ^ 63 → Moves (Kept journal base number time) id v 0 (λ n. max n least) (λ found w. w ≡ lifted v least)
-  lifts id v least live low ws hs vs s e inside small =
+  lifts id v least live low ws hs vs s e small =
+    let inside : 1 < length ws = let wide : length ws ≡ length hs + 2 = s.lengths.wide in omega arith in
     let x : ℕ = clock ws in
     let w : Know N B = lifted v least in
     let ws' : List ℕ = set ws 0 (max x least) in
-    let now : clock ws' ≡ max x least = word_same ws 0 (max x least) inside in
+    let now : clock ws' ≡ max x least = word_same ws 0 (max x least) (omega arith) in
     let next_same : next_seat ws' ≡ next_seat ws = get_or-set_other ws 0 1 (max x least) 0 (λ p. omega arith) in
     (w, record {
       truth = s.truth;
@@ -143,7 +145,8 @@ module _ {S N B : Type 0} (journal : S → List N) (base : S → B) (number : N 
     }, refl)
 
   pub gets_number : (id : ℕ) (v : Know N B) → v.live ≡ true → 1 ≤ v.allowance → Moves (Kept journal base number time) id v 1 (λ n. (n + 1) % 2 ^ 64) (λ found w. w ≡ numbered v found)
-  gets_number id v live one ws hs vs s e inside small =
+  gets_number id v live one ws hs vs s e small =
+    let inside : 1 < length ws = let wide : length ws ≡ length hs + 2 = s.lengths.wide in omega arith in
     let x : ℕ = next_seat ws in
     let w : Know N B = numbered v x in
     let few : x ≤ 2 ^ 40 + 1 = let a : x + total (λ (u : Know N B). u.allowance) vs ≤ 2 ^ 40 + 1 = s.sums.few in omega arith in
@@ -162,10 +165,11 @@ module _ {S N B : Type 0} (journal : S → List N) (base : S → B) (number : N 
 
   -- a step that reads the clock, and changes nothing but what the seat offers
   pub offers : (id : ℕ) (v : Know N B) (x : ℕ) → Moves (Kept journal base number time) id v 0 (λ n. n) (λ found w. w ≡ offered v x)
-  offers id v x ws hs vs s e inside small =
+  offers id v x ws hs vs s e small =
+    let inside : 1 < length ws = let wide : length ws ≡ length hs + 2 = s.lengths.wide in omega arith in
     let w : Know N B = offered v x in
     let ws' : List ℕ = set ws 0 (get_or ws 0 0) in
-    let clock_same : clock ws' ≡ clock ws = word_same ws 0 (get_or ws 0 0) inside in
+    let clock_same : clock ws' ≡ clock ws = word_same ws 0 (get_or ws 0 0) (omega arith) in
     let next_same : next_seat ws' ≡ next_seat ws = get_or-set_other ws 0 1 (get_or ws 0 0) 0 (λ p. omega arith) in
     (w, record {
       truth = s.truth;
@@ -179,10 +183,11 @@ module _ {S N B : Type 0} (journal : S → List N) (base : S → B) (number : N 
 
   -- the same, where the seat learns what a join has made of it
   pub settles : (id : ℕ) (v : Know N B) → Moves (Kept journal base number time) id v 0 (λ n. n) (λ found. Settled number v)
-  settles id v ws hs vs s e inside small =
+  settles id v ws hs vs s e small =
+    let inside : 1 < length ws = let wide : length ws ≡ length hs + 2 = s.lengths.wide in omega arith in
     let w : Know N B = settled v in
     let ws' : List ℕ = set ws 0 (get_or ws 0 0) in
-    let clock_same : clock ws' ≡ clock ws = word_same ws 0 (get_or ws 0 0) inside in
+    let clock_same : clock ws' ≡ clock ws = word_same ws 0 (get_or ws 0 0) (omega arith) in
     let next_same : next_seat ws' ≡ next_seat ws = get_or-set_other ws 0 1 (get_or ws 0 0) 0 (λ p. omega arith) in
     (w, record {
       truth = s.truth;

@@ -1,5 +1,5 @@
 -- What is true of a table of turns between any two steps.
-use Rattle.std.specs.Prelude.{◌≡◌, ℕ, ◌+◌, ◌^◌, ◌<◌, ◌≤◌, Bool, true, List, [], length, slice_index_or, max, Option, Some}
+use Rattle.std.specs.Prelude.{◌≡◌, ℕ, ◌+◌, ◌^◌, ◌<◌, ◌≤◌, Bool, true, List, [], ◌∷◌, map, length, slice_index_or, max, Option, Some}
 use mathlib.Core.Option.{none, some}
 use mathlib.Core.Option as maybe
 use lib.ListN.{get_elem?}
@@ -107,3 +107,7 @@ module _ {N B : Type 0} where
     pub sums : Summed truth ws vs
     pub lengths : Measured truth ws (length hs)
     pub grown : (j : ℕ) (v : Know N B) → IsAt vs j v → IsGrown number v.seen v.parts
+
+-- the words of a table that begins with the values xs: the clock, the next number of a seat, and the length of each journal
+abbrev pub first_words : {S N : Type 0} → (S → List N) → ℕ → List S → List ℕ
+first_words journal first xs = first ∷ 1 ∷ map (λ x. length (journal x)) xs

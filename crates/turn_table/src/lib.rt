@@ -5,6 +5,8 @@
 
 mod journalled;
 mod knows;
+mod seats;
 
 pub use crate::journalled::Journalled;
 pub use crate::knows::{Know, Part};
+pub use crate::seats::Seat;

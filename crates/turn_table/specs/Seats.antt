@@ -1,0 +1,56 @@
+-- Tables, seats and turns as callers see them.
+use Rattle.std.specs.Prelude.{◌≡◌, ℕ, ◌+◌, ◌^◌, ◌<◌, true, List, [], ◌∷◌, map, length, drop, None, Option}
+use Rattle.atomic_table.specs.Seated.{TableId}
+use Rattle.turn_lock.specs.declared.tickets.Ticket.{Ticket}
+use Rattle.turn_lock.specs.declared.tickets.Doing.{Doing}
+use Rattle.atomic_table.specs.declared.shared.Seat as raw
+use Rattle.turn_table.specs.declared.knows.Know.{Know}
+use Rattle.turn_table.specs.Knowledge.{at_slot}
+
+-- which table it is, the least number that was ever to be drawn, and the base of the value of each slot
+pub record Table (B : Type 0) : Type 0 where
+  pub id : TableId
+  pub first : ℕ
+  pub bases : List B
+
+-- a seat: its table, what it has, what it has seen of the journal of each slot, and the turns that it holds
+pub record SeatView (N B : Type 0) : Type 0 where
+  pub table : Table B
+  pub number : ℕ
+  pub allowance : ℕ
+  pub drawn : List ℕ
+  -- the numbers of the seats that were joined to it
+  pub joined : List ℕ
+  -- no number that it draws is below this one
+  pub least : ℕ
+  pub seen : List (List N)
+  pub turns : List Ticket
+  -- how many numbers it had drawn when it entered its turn
+  pub mark : ℕ
+
+module _ {S N B : Type 0} where
+  abbrev pub known : raw.Seat (Option S) (Doing (Know N B)) → Know N B
+  known p = p.me.0.client
+
+  abbrev pub seat_view : raw.Seat (Option S) (Doing (Know N B)) → SeatView N B
+  seat_view p = record {
+    table = record { id = p.table_id; first = (known p).first; bases = (known p).bases };
+    number = (known p).number;
+    allowance = (known p).allowance;
+    drawn = (known p).drawn;
+    joined = (known p).joined;
+    least = (known p).least;
+    seen = (known p).seen;
+    turns = p.me.0.tickets;
+    mark = (known p).mark;
+  }
+
+  -- it is a seat, with nothing to give away, and out of the slots of its tickets it has the values
+  pub record IsSeat (p : raw.Seat (Option S) (Doing (Know N B))) (number : ℕ) : Type 0 where
+    pub live : (known p).live ≡ true
+    pub named : number ≡ (known p).number
+    pub spare : (known p).spare ≡ []
+    pub parts : (known p).parts ≡ []
+    pub long : length (known p).seen ≡ p.table_id.slots
+    pub inside : (known p).inside ≡ map (λ (t : Ticket). t.slot) p.me.0.tickets
+    pub carried : p.me.1 ≡ map (λ (t : Ticket). (t.slot, None)) p.me.0.tickets
