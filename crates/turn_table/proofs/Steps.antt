@@ -15,7 +15,7 @@ use Rattle.turn_table.specs.declared.knows.Know.{Know}
 use Rattle.turn_table.specs.declared.knows.Part.{Part}
 use Rattle.turn_table.specs.Knowledge.{at_slot, numbers, weight, entered, counted, left, drew, lifted, numbered, offered, settled, stayed, given, joined, spent}
 use Rattle.turn_table.specs.Rule.{Truth, Grew, IsGrown, SeesAll, OwnsAll, Kept, grown_truth, gone, clock, next_seat, Measured}
-use Rattle.turn_table.specs.Tells.{Took, Drew, Settled}
+use Rattle.turn_table.specs.Tells.{Took, Drew, Numbers, Settled}
 use Rattle.turn_table.proofs.Drawing.{drawn_kept, drawn_counts, drawn_draws, drawn_splits, drawn_joins}
 use Rattle.turn_table.proofs.Measuring.{measured_kept, measured_counts}
 use Rattle.turn_table.proofs.Owning.{numbered_kept, owns_seen, numbered_counts, numbered_numbers, numbered_splits, numbered_joins}
@@ -30,10 +30,6 @@ word_same : (ws : List ℕ) (i n : ℕ) → i < length ws → get_or (set ws i n
 word_same ws i n h = get_or-set_same ws i n 0 h
 
 module _ {S N B : Type 0} (journal : S → List N) (base : S → B) (number : N → ℕ) (time : N → Option ℕ) where
-  Rule : List ℕ → Homes S → List (Know N B) → Type 0
-  Rule = Kept journal base number time
-
-  -- a step on one of the first two words that changes what the seat knows and has of drawn numbers and lower bounds alone
   pub enters : (id : ℕ) (v : Know N B) (k : ℕ) → v.live ≡ true → Gains (Kept journal base number time) id v k (Took journal base number v k)
   enters id v k live ws hs vs x s e h =
     let w : Know N B = entered v k (journal x) in
@@ -144,7 +140,7 @@ module _ {S N B : Type 0} (journal : S → List N) (base : S → B) (number : N 
       grown = each_set (λ (u : Know N B). IsGrown number u.seen u.parts) vs id w s.grown (s.grown id v e);
     }, refl)
 
-  pub gets_number : (id : ℕ) (v : Know N B) → v.live ≡ true → 1 ≤ v.allowance → Moves (Kept journal base number time) id v 1 (λ n. (n + 1) % 2 ^ 64) (λ found w. w ≡ numbered v found)
+  pub gets_number : (id : ℕ) (v : Know N B) → v.live ≡ true → 1 ≤ v.allowance → Moves (Kept journal base number time) id v 1 (λ n. (n + 1) % 2 ^ 64) (Numbers v)
   gets_number id v live one ws hs vs s e small =
     let inside : 1 < length ws = let wide : length ws ≡ length hs + 2 = s.lengths.wide in omega arith in
     let x : ℕ = next_seat ws in
@@ -161,7 +157,10 @@ module _ {S N B : Type 0} (journal : S → List N) (base : S → B) (number : N 
       sums = summed_numbers ws' id v x s.sums e one clock_same now;
       lengths = measured_kept 1 ((x + 1) % 2 ^ 64) (omega arith) s.lengths;
       grown = each_set (λ (u : Know N B). IsGrown number u.seen u.parts) vs id w s.grown (s.grown id v e);
-    }, refl)
+    }, record {
+      is = refl;
+      above = λ n a. ⊎_elim (λ (h : n < x). h) (λ (h : x ≤ n). let f : Know N B → ℕ = λ u. count n (numbers u) in let z : total f vs ≡ 0 = s.numbers.unused n h in let y : f v ≤ total f vs = total_least f vs id v e in absurd (omega arith)) (cases_lt n x);
+    })
 
   -- a step that reads the clock, and changes nothing but what the seat offers
   pub offers : (id : ℕ) (v : Know N B) (x : ℕ) → Moves (Kept journal base number time) id v 0 (λ n. n) (λ found w. w ≡ offered v x)
@@ -201,6 +200,7 @@ module _ {S N B : Type 0} (journal : S → List N) (base : S → B) (number : N 
       is = refl;
       grown = s.grown id v e;
       once = λ x. let f : Know N B → ℕ = λ u. count x u.drawn in let a : f v ≤ total f vs = total_least f vs id v e in let b : total f vs ≤ 1 = s.drawn.once x in omega arith;
+      apart = λ n. let f : Know N B → ℕ = λ u. count n (numbers u) in let a : f v ≤ total f vs = total_least f vs id v e in let b : total f vs ≤ 1 = s.numbers.once n in omega arith;
     })
 
   pub splits : (id : ℕ) (v : Know N B) → v.live ≡ true → v.gift ≤ v.allowance → v.spare ≡ get_or v.spare 0 0 ∷ drop 1 v.spare → Forks (Kept journal base number time) id v (stayed v) (given v)

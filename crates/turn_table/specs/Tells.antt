@@ -4,7 +4,7 @@ use Rattle.turn_facts.specs.Counts.{Among, NoneTwice}
 use Rattle.turn_facts.specs.Notes.{of, times}
 use Rattle.turn_facts.specs.Prefixes.{StartsWith, IsAt}
 use Rattle.turn_table.specs.declared.knows.Know.{Know}
-use Rattle.turn_table.specs.Knowledge.{at_slot, numbers, entered, drew, settled}
+use Rattle.turn_table.specs.Knowledge.{at_slot, numbers, entered, drew, numbered, settled}
 use Rattle.turn_table.specs.Rule.{IsGrown, clock}
 
 module _ {S N B : Type 0} where
@@ -38,3 +38,9 @@ module _ {N B : Type 0} where
     pub is : w ≡ settled v
     pub grown : IsGrown number v.seen v.parts
     pub once : NoneTwice v.drawn
+    pub apart : NoneTwice (numbers v)
+
+  -- the number is above all that the seat has
+  pub record Numbers (v : Know N B) (x : ℕ) (w : Know N B) : Type 0 where
+    pub is : w ≡ numbered v x
+    pub above : (n : ℕ) → Among n (numbers v) → n < x
