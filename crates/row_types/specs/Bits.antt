@@ -1,5 +1,5 @@
 -- Lists of bits, how they are packed, and the number of positions at which two of them agree to a test.
-use Rattle.std.specs.Prelude.{◌≡◌, ℕ, zero, suc, ◌+◌, ◌-◌, ◌*◌, ◌/◌, ◌%◌, ◌<◌, ◌≤◌, ◌==◌, Bool, true, false, not, cond, List, [], ◌∷◌, ◌++◌, length, drop, replicate}
+use Rattle.std.specs.Prelude.{◌≡◌, ℕ, zero, suc, ◌+◌, ◌-◌, ◌*◌, ◌/◌, ◌%◌, ◌<◌, ◌≤◌, ◌==◌, Bool, true, false, not, cond, List, [], ◌∷◌, ◌++◌, length, take, drop, replicate}
 
 -- the k lowest bits of a number, the lowest first
 unfoldable pub bits_of : ℕ → ℕ → List Bool
@@ -17,6 +17,17 @@ pub record IsPacked (dim : ℕ) (words : List ℕ) : Type 0 where
   pub enough : dim ≤ 64 * length words
   pub few : 64 * length words < dim + 64
   pub within : dim ≤ 4096
+
+-- words that hold some bytes, eight bytes a word, with no bit set behind them
+pub record HoldBytes (bytes words : List ℕ) : Type 0 where
+  pub same : bits_in 64 words ≡ bits_in 8 bytes ++ replicate (64 * length words - 8 * length bytes) false
+  pub enough : 8 * length bytes ≤ 64 * length words
+  pub few : 64 * length words < 8 * length bytes + 64
+
+-- the words that a vector of these bits keeps
+pub record AreWordsOf (bits : List Bool) (words : List ℕ) : Type 0 where
+  pub packed : IsPacked (length bits) words
+  pub same : take (length bits) (bits_in 64 words) ≡ bits
 
 -- the number of positions at which two lists of bits pass a test of two bits
 abbrev pub count_pairs : (Bool → Bool → Bool) → List Bool → List Bool → ℕ

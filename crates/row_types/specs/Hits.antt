@@ -1,5 +1,5 @@
 -- The distance of two lists of bits, and the order of hits.
-use Rattle.std.specs.Prelude.{ℕ, zero, suc, ◌-◌, ◌*◌, Bool, List, map, take}
+use Rattle.std.specs.Prelude.{ℕ, zero, suc, ◌-◌, ◌*◌, ◌≡◌, ◌≢◌, Bool, List, map, take, AllPairs, Contains}
 use Rattle.std.specs.Ordering.{nat_cmp, int_cmp, then_cmp, on}
 use Rattle.std.specs.FinMap as fin
 use Rattle.std.specs.declared.cmp.Ordering.{Ordering}
@@ -68,3 +68,10 @@ in_order R items = fin.keys (fin.from_entries {R = R} (map with_nothing items))
 -- the k least of some hits, each once, in rising order
 abbrev pub least : ℕ → List Hit → List Hit
 least k hits = take k (in_order hit_cmp hits)
+
+-- a key that stands twice has the same distance both times, as where each distance is that of the key's row
+abbrev pub IsOneDistanceAKey : List Hit → Type 0
+IsOneDistanceAKey hits = (x y : Hit) → Contains hits x → Contains hits y → x.key ≡ y.key → x.distance ≡ y.distance
+
+abbrev pub IsEachKeyOnce : List Hit → Type 0
+IsEachKeyOnce hits = AllPairs (λ x y. x.key ≢ y.key) hits

@@ -5,17 +5,21 @@
 #![tactic(auto)]
 
 mod allocation;
+mod filters;
 mod hits;
 mod lists;
 mod refusals;
 mod rows;
+mod schemas;
 mod texts;
 mod vectors;
 
 pub use crate::allocation::Memory;
+pub use crate::filters::{CompareOp, Filter, Operand, holds};
 pub use crate::hits::{Distance, Hit, Metric};
 pub use crate::lists::List;
 pub use crate::refusals::VectorError;
 pub use crate::rows::{Field, Key, Kind, Row, Schema};
+pub use crate::schemas::FieldError;
 pub use crate::texts::Text;
 pub use crate::vectors::BitVector;

@@ -1,1 +1,4 @@
 pub mod Client
+pub mod Tickets
+pub mod Plays
+pub mod Passes

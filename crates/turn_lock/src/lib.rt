@@ -4,8 +4,16 @@
 //! It relies on this: the rule holds between any two steps, and a value is with at most one seat.
 #![tactic(auto)]
 
+mod joins;
+mod locks;
+mod makes;
+mod plays;
 mod protocol;
 mod tickets;
+mod turns;
+mod waits;
+mod words;
 
+pub use crate::locks::{Turn, TurnLock};
 pub use crate::protocol::{Counts, Join, Learns, Leaves, Protocol, Split, Takes};
 pub use crate::tickets::{Doing, Pass, Stage, Ticket};

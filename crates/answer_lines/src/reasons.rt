@@ -1,0 +1,26 @@
+//! Why a request line is refused.
+
+/// The first thing that is wrong with a request line; they are tested in this order.
+#[derive(Debug, Clone, Copy, PartialEq, Eq)]
+pub enum Reason {
+    /// The bytes are no JSON.
+    NotJson,
+    /// The JSON is no object.
+    NotObject,
+    /// `op` is absent or names no operation.
+    BadOp,
+    /// `op` is `create`, which stands in line 1 alone.
+    LateCreate,
+    /// The operation doesn't have one of the members.
+    UnknownMember,
+    /// `key` is absent or no integer.
+    BadKey,
+    /// `vector` is absent or no text.
+    NoVector,
+    /// `vector` spells no vector of the collection's dimension.
+    BadVector,
+    /// `k` is absent or no integer from 1 to 16,384.
+    BadK,
+    /// `level` names no level, or `delta_ms` is no such number or stands beside another level than Bounded.
+    BadLevel,
+}

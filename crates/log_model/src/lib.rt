@@ -1,0 +1,10 @@
+//! What a log of writes means: the rows that are live at a timestamp, the reply to a write, and the
+//! hits of a search. The layers above promise their answers in these words; the two functions here
+//! compute them plainly, from the log alone.
+#![tactic(auto)]
+
+mod logs;
+mod queries;
+
+pub use crate::logs::{Entry, Write};
+pub use crate::queries::{Plan, Query};

@@ -1,0 +1,5 @@
+mod Comings
+mod Entries
+mod Lines
+mod Shelves
+mod Steps
