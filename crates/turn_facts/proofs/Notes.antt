@@ -92,10 +92,10 @@ module _ {N : Type 0} (number : N → ℕ) where
     -- the timestamps of a beginning of a journal are among those of the journal
     pub times_starts : {l m : List N} (t : ℕ) → StartsWith l m → Among t (times time m) → Among t (times time l)
     times_starts {l} {m} t s a =
-      let e : times time l ≡ times time m ++ times time s.rest = ap (times time) s.is ∙ times-append m s.rest in
-      let c : count t (times time l) ≡ count t (times time m ++ times time s.rest) = ap (count t) e in
-      let d : count t (times time m ++ times time s.rest) ≡ count t (times time m) + count t (times time s.rest) = count-append t (times time m) (times time s.rest) in
-      omega arith
+        let e : times time l ≡ times time m ++ times time s.rest = ap (times time) s.is ∙ times-append m s.rest in
+        let c : count t (times time l) ≡ count t (times time m ++ times time s.rest) = ap (count t) e in
+        let d : count t (times time m ++ times time s.rest) ≡ count t (times time m) + count t (times time s.rest) = count-append t (times time m) (times time s.rest) in
+        omega arith
 
     -- what a seat adds to a journal is nothing of another seat
     pub adds_others : {n : ℕ} {drawn : List ℕ} {l m : List N} (k : ℕ) → Adds number time n drawn l m → n ≢ k → of number k m ≡ of number k l
@@ -104,7 +104,7 @@ module _ {N : Type 0} (number : N → ℕ) where
     -- its timestamps are those of before and numbers that the seat drew
     pub adds_times : {n : ℕ} {drawn : List ℕ} {l m : List N} (t : ℕ) → Adds number time n drawn l m → Among t (times time m) → (Among t (times time l)) ⊎ (Among t drawn)
     adds_times {n} {drawn} {l} {m} t a b =
-      let e : times time m ≡ times time l ++ times time a.notes = ap (times time) a.is ∙ times-append l a.notes in
-      let c : count t (times time m) ≡ count t (times time l ++ times time a.notes) = ap (count t) e in
-      let d : count t (times time l ++ times time a.notes) ≡ count t (times time l) + count t (times time a.notes) = count-append t (times time l) (times time a.notes) in
-      ⊎_elim (λ (h : 0 < count t (times time l)). inl (omega arith)) (λ (h : count t (times time l) ≤ 0). inr (times-own n drawn a.notes a.own t (omega arith))) (cases_lt 0 (count t (times time l)))
+        let e : times time m ≡ times time l ++ times time a.notes = ap (times time) a.is ∙ times-append l a.notes in
+        let c : count t (times time m) ≡ count t (times time l ++ times time a.notes) = ap (count t) e in
+        let d : count t (times time l ++ times time a.notes) ≡ count t (times time l) + count t (times time a.notes) = count-append t (times time l) (times time a.notes) in
+        ⊎_elim (λ (h : 0 < count t (times time l)). inl (omega arith)) (λ (h : count t (times time l) ≤ 0). inr (times-own n drawn a.notes a.own t (omega arith))) (cases_lt 0 (count t (times time l)))

@@ -73,9 +73,9 @@ module _ {A : Type 0} where
   -- what holds at some place still does where what holds of the old element holds of the new one
   pub some_set : (Q : A → Type 0) (l : List A) (i : ℕ) (a b : A) → IsAt l i a → (Q a → Q b) → (j : ℕ) (c : A) → IsAt l j c → Q c → (j' : ℕ) × (c' : A) × IsAt (set l i b) j' c' × Q c'
   some_set Q l i a b e f j c d q =
-    ⊎_elim (λ (p : j ≡ i). let at_i : IsAt l i c = subst (λ (n : ℕ). IsAt l n c) p d in let same : c ≡ a = at_one l i c a at_i e in (i, b, at_here l i b (at_below l i a e), f (subst Q same q)))
-    (λ (p : j ≢ i). (j, c, at_else l i j b p ∙ d, q))
-    (same_or j i)
+      ⊎_elim (λ (p : j ≡ i). let at_i : IsAt l i c = subst (λ (n : ℕ). IsAt l n c) p d in let same : c ≡ a = at_one l i c a at_i e in (i, b, at_here l i b (at_below l i a e), f (subst Q same q)))
+      (λ (p : j ≢ i). (j, c, at_else l i j b p ∙ d, q))
+      (same_or j i)
 
   pub at_get : (l : List A) (k : ℕ) (a d : A) → IsAt l k a → get_or l k d ≡ a
   at_get [] k a d e = absurd (some-ne-none a (sym e))

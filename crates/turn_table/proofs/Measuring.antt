@@ -15,6 +15,6 @@ module _ {N B : Type 0} where
   measured_counts {t} {ws} {slots} k l n here is s = record {
     wide = length-set ws (k + 2) n ∙ s.wide;
     lengths = λ j h. let wide : length ws ≡ slots + 2 = s.wide in
-      ⊎_elim (λ (p : j ≡ k). let P : ℕ → Type 0 = λ i. get_or (set ws (k + 2) n) (i + 2) 0 ≡ length ((grown_truth t k l).journals i) in subst P (sym p) (get_or-set_same ws (k + 2) n 0 (omega arith) ∙ is ∙ ap length (sym (put_here t.journals k l))))
-      (λ (p : j ≢ k). get_or-set_other ws (k + 2) (j + 2) n 0 (λ q. p (omega arith)) ∙ s.lengths j h ∙ ap length (sym (put_else t.journals k l j p))) (same_or j k);
+        ⊎_elim (λ (p : j ≡ k). let P : ℕ → Type 0 = λ i. get_or (set ws (k + 2) n) (i + 2) 0 ≡ length ((grown_truth t k l).journals i) in subst P (sym p) (get_or-set_same ws (k + 2) n 0 (omega arith) ∙ is ∙ ap length (sym (put_here t.journals k l))))
+        (λ (p : j ≢ k). get_or-set_other ws (k + 2) (j + 2) n 0 (λ q. p (omega arith)) ∙ s.lengths j h ∙ ap length (sym (put_else t.journals k l j p))) (same_or j k);
   }

@@ -46,46 +46,53 @@ module _ {S N B : Type 0} (journal : S → List N) (base : S → B) (number : N 
   pub opens : (first : ℕ) (xs : List S) → first < 2 ^ 63 + 2 ^ 60 → ((k : ℕ) (x : S) (t : ℕ) → IsAt xs k x → Among t (times time (journal x)) → t < first)
       → Kept journal base number time (first_words journal first xs) (all_home xs) (opening (map journal xs) (map base xs) first ∷ [])
   opens first xs low above =
-    let js : List (List N) = map journal xs in
-    let v : Know N B = opening js (map base xs) first in
-    let t : Truth N B = record { journals = at_slot js; bases = map base xs; first = first } in
-    let many : length (all_home xs) ≡ length xs = length-map xs (λ (x : S). some (Some x)) in
-    let sv : SeesAll t (length (all_home xs)) v = record {
-      long = λ l. length-map xs journal ∙ sym many;
-      told = λ l. (refl, refl);
-      front = λ k. starts_all (at_slot js k);
-      inside = λ k a. let z : count k [] ≡ 0 = count-nil k in absurd (omega arith);
-    } in
-    let ov : OwnsAll number t 1 v = record { mine = λ k n a. refl; fresh = λ l k n h. refl } in
-    record {
-      truth = t;
-      shown = record {
-        home = λ k x h. let at : IsAt xs k x = home_at xs k x h in (sym (at_get js k (journal x) [] (at_map journal xs k x at)), at_map base xs k x at);
-        based = length-map xs base ∙ sym many;
-        views = only (SeesAll t (length (all_home xs))) v sv;
-        newest = λ k h. (0, v, refl, (refl, refl));
-        insides = λ k. total_one (λ (u : Know N B). count k u.inside) v ∙ count-nil k ∙ sym (none_gone xs k);
-      };
-      numbers = record {
-        once = λ n. let a : total (λ (u : Know N B). count n (numbers u)) (v ∷ []) ≡ count n (numbers v) = total_one (λ (u : Know N B). count n (numbers u)) v in
-          ⊎_elim (λ (p : 0 ≡ n). let b : count n (0 ∷ []) ≡ 1 + count n [] = subst (λ (i : ℕ). count n (i ∷ []) ≡ 1 + count n []) (sym p) (count-here n []) in let z : count n [] ≡ 0 = count-nil n in omega arith)
-          (λ (p : 0 ≢ n). let b : count n (0 ∷ []) ≡ count n [] = count-else n 0 [] p in let z : count n [] ≡ 0 = count-nil n in omega arith) (same_or 0 n);
-        unused = λ n h. total_one (λ (u : Know N B). count n (numbers u)) v ∙ count-else n 0 [] (λ p. omega arith) ∙ count-nil n;
-        views = only (OwnsAll number t 1) v ov;
-      };
-      drawn = record {
-        once = λ x. let a : total (λ (u : Know N B). count x u.drawn) (v ∷ []) ≡ count x [] = total_one (λ (u : Know N B). count x u.drawn) v in let z : count x [] ≡ 0 = count-nil x in omega arith;
-        below = λ x h. total_one (λ (u : Know N B). count x u.drawn) v ∙ count-nil x;
-        least = only (λ (u : Know N B). u.least ≤ first) v (omega arith);
-        first = omega arith;
-        times = λ k x a. time_at xs first k x above a;
-      };
-      sums = record {
-        weights = total_one weight v;
-        room = let a : total allowance (v ∷ []) ≡ 2 ^ 40 = total_one allowance v in omega arith;
-        few = let a : total allowance (v ∷ []) ≡ 2 ^ 40 = total_one allowance v in omega arith;
-        low = low;
-      };
-      lengths = record { wide = let a : length (map (λ (x : S). length (journal x)) xs) ≡ length xs = length-map xs (λ (x : S). length (journal x)) in omega arith; lengths = λ k h. let p : k + 2 ≡ suc (suc k) = omega arith in ap (λ (i : ℕ). get_or (first_words journal first xs) i 0) p ∙ length_at journal xs k };
-      grown = only (λ (u : Know N B). IsGrown number u.seen u.parts) v (λ i p e. absurd (some-ne-none p (sym e)));
-    }
+      let js : List (List N) = map journal xs in
+      let v : Know N B = opening js (map base xs) first in
+      let t : Truth N B = record { journals = at_slot js; bases = map base xs; first = first } in
+      let many : length (all_home xs) ≡ length xs = length-map xs (λ (x : S). some (Some x)) in
+      let sv : SeesAll t (length (all_home xs)) v = record {
+        long = λ l. length-map xs journal ∙ sym many;
+        told = λ l. (refl, refl);
+        front = λ k. starts_all (at_slot js k);
+        inside = λ k a. let z : count k [] ≡ 0 = count-nil k in absurd (omega arith);
+      } in
+      let ov : OwnsAll number t 1 v = record { mine = λ k n a. refl; fresh = λ l k n h. refl } in
+      record {
+        truth = t;
+        shown = record {
+          home = λ k x h. let at : IsAt xs k x = home_at xs k x h in (sym (at_get js k (journal x) [] (at_map journal xs k x at)), at_map base xs k x at);
+          based = length-map xs base ∙ sym many;
+          views = only (SeesAll t (length (all_home xs))) v sv;
+          newest = λ k h. (0, v, refl, (refl, refl));
+          insides = λ k. total_one (λ (u : Know N B). count k u.inside) v ∙ count-nil k ∙ sym (none_gone xs k);
+        };
+        numbers = record {
+          once = λ n. let a : total (λ (u : Know N B). count n (numbers u)) (v ∷ []) ≡ count n (numbers v) = total_one (λ (u : Know N B). count n (numbers u)) v in
+              ⊎_elim (λ (p : 0 ≡ n). let b : count n (0 ∷ []) ≡ 1 + count n [] = subst (λ (i : ℕ). count n (i ∷ []) ≡ 1 + count n []) (sym p) (count-here n []) in let z : count n [] ≡ 0 = count-nil n in omega arith)
+              (λ (p : 0 ≢ n). let b : count n (0 ∷ []) ≡ count n [] = count-else n 0 [] p in let z : count n [] ≡ 0 = count-nil n in omega arith) (same_or 0 n);
+          unused = λ n h. total_one (λ (u : Know N B). count n (numbers u)) v ∙ count-else n 0 [] (λ p. omega arith) ∙ count-nil n;
+          views = only (OwnsAll number t 1) v ov;
+        };
+        drawn = record {
+          once = λ x. let a : total (λ (u : Know N B). count x u.drawn) (v ∷ []) ≡ count x [] = total_one (λ (u : Know N B). count x u.drawn) v in let z : count x [] ≡ 0 = count-nil x in omega arith;
+          below = λ x h. total_one (λ (u : Know N B). count x u.drawn) v ∙ count-nil x;
+          least = only (λ (u : Know N B). u.least ≤ first) v (omega arith);
+          first = omega arith;
+          times = λ k x a. time_at xs first k x above a;
+        };
+        sums = record {
+          weights = total_one weight v;
+          room = let a : total allowance (v ∷ []) ≡ 2 ^ 40 = total_one allowance v in omega arith;
+          few = let a : total allowance (v ∷ []) ≡ 2 ^ 40 = total_one allowance v in omega arith;
+          low = low;
+        };
+        lengths = record { wide = let a : length (map (λ (x : S). length (journal x)) xs) ≡ length xs = length-map xs (λ (x : S). length (journal x)) in omega arith; lengths = λ k h. let p : k + 2 ≡ suc (suc k) = omega arith in ap (λ (i : ℕ). get_or (first_words journal first xs) i 0) p ∙ length_at journal xs k };
+        grown = only (λ (u : Know N B). IsGrown number u.seen u.parts) v (λ i p e. absurd (some-ne-none p (sym e)));
+      }
+
+  -- the same at lists that are equal to those
+  pub opens_at : (first : ℕ) (xs ys : List S) (ws : List ℕ) → ws ≡ first_words journal first xs → ys ≡ xs → first < 2 ^ 63 + 2 ^ 60 → ((k : ℕ) (x : S) (t : ℕ) → IsAt xs k x → Among t (times time (journal x)) → t < first)
+      → Kept journal base number time ws (all_home xs) (opening (map journal ys) (map base ys) first ∷ [])
+  opens_at first xs ys ws e f low above =
+      subst (λ (l : List ℕ). Kept journal base number time l (all_home xs) (opening (map journal ys) (map base ys) first ∷ [])) (sym e)
+      (subst (λ (l : List S). Kept journal base number time (first_words journal first xs) (all_home xs) (opening (map journal l) (map base l) first ∷ [])) (sym f) (opens first xs low above))

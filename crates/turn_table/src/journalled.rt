@@ -11,9 +11,11 @@ pub trait Journalled {
     ghost use Rattle.std.specs.Prelude.{ℕ, List, Option};
 
     ghost journal: { Self → List Self.Note };
+
     ghost base: { Self → Self.Base };
     // The number of the seat that wrote a note, and the note's timestamp, if it has one.
     ghost number_of: { Self.Note → ℕ };
+
     ghost time_of: { Self.Note → Option ℕ };
 
     /// The number of notes.
