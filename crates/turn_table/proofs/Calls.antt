@@ -1,12 +1,12 @@
 -- What the calls of a table owe, of seats as callers see them.
-use Rattle.std.proofs.Common.{◌≡◌, ℕ, ◌+◌, ◌-◌, ◌%◌, ◌^◌, ◌<◌, ◌≤◌, Bool, true, cond, List, [], ◌∷◌, ◌++◌, length, map, get_or, drop, max, Option, None, refl, ap, sym, ◌∙◌, subst, arith, get_or-set_same}
+use Rattle.std.proofs.Common.{◌≡◌, ℕ, ◌+◌, ◌-◌, ◌%◌, ◌^◌, ◌<◌, ◌≤◌, Bool, cond, List, [], ◌∷◌, ◌++◌, length, map, drop, max, Option, None, refl, ap, sym, ◌∙◌, subst, arith, get_or-set_same}
 use lib.ListN.{get_elem?}
 use Rattle.atomic_table.specs.Seated.{TableId}
 use Rattle.turn_lock.specs.Client.{Moves, MovesOut, Gives, Forks, Merges, AllHome, Ended}
 use Rattle.turn_lock.specs.Passes.{Pass, IsStill}
 use Rattle.turn_lock.specs.declared.tickets.Ticket.{Ticket}
 use Rattle.turn_facts.specs.Counts.{count, Among}
-use Rattle.turn_facts.specs.Notes.{of, Adds}
+use Rattle.turn_facts.specs.Notes.{Adds}
 use Rattle.turn_facts.specs.Prefixes.{IsAt}
 use Rattle.turn_facts.proofs.Counts.{count-here}
 use Rattle.turn_facts.proofs.Notes.{adds_starts}
@@ -14,9 +14,9 @@ use Rattle.turn_facts.proofs.Prefixes.{starts_length}
 use Rattle.turn_table.specs.declared.knows.Know.{Know}
 use Rattle.turn_table.specs.declared.knows.Part.{Part}
 use Rattle.turn_table.specs.declared.turns.Turn.{Turn}
-use Rattle.turn_table.specs.Knowledge.{at_slot, longer_each, own, numbers, weight, part, counted, left, numbered, offered, stayed, given, joined, settled, spent}
+use Rattle.turn_table.specs.Knowledge.{at_slot, numbers, weight, part, counted, left, numbered, offered, stayed, given, joined, settled, spent}
 use Rattle.turn_table.specs.Rule.{Kept, Grew, clock}
-use Rattle.turn_table.specs.Seats.{Table, SeatView, known, seat_view, IsSeat, IsGiven, fresh, part_of}
+use Rattle.turn_table.specs.Seats.{SeatView, known, seat_view, IsSeat, IsGiven, fresh, part_of}
 use Rattle.turn_table.specs.Tells.{Drew, Numbers, Settled, Ends}
 use Rattle.turn_table.proofs.Ending.{ends_home, ends}
 use Rattle.turn_table.proofs.Sharing.{length-longer_each}

@@ -1,7 +1,6 @@
 -- The numbers that seats drew, at each step.
-use Rattle.std.proofs.Common.{◌≡◌, ℕ, zero, suc, ◌+◌, ◌-◌, ◌<◌, ◌≤◌, ◌≢◌, ◌⊎◌, max, Bool, List, [], ◌∷◌, ◌++◌, set, Option, refl, ap, sym, ◌∙◌, subst, inl, inr, ⊎_elim, arith}
+use Rattle.std.proofs.Common.{◌≡◌, ℕ, ◌+◌, ◌<◌, ◌≤◌, ◌≢◌, ◌⊎◌, List, [], ◌∷◌, ◌++◌, set, Option, ap, sym, ◌∙◌, subst, ⊎_elim, arith}
 use Rattle.std.proofs.lemmas.Bool.{cases_lt}
-use lib.ListN.{get_elem?}
 use Rattle.turn_facts.specs.Counts.{count, Among, total}
 use Rattle.turn_facts.specs.Notes.{times}
 use Rattle.turn_facts.specs.Prefixes.{IsAt}
@@ -9,7 +8,7 @@ use Rattle.turn_facts.proofs.Counts.{count-nil, count-here, count-else, count-ap
 use Rattle.turn_facts.proofs.Places.{same_or, at_else, each_set, each_more, put_here, put_else}
 use Rattle.turn_facts.proofs.Totals.{total_set, total_least, total_cut, total_pair}
 use Rattle.turn_table.specs.declared.knows.Know.{Know}
-use Rattle.turn_table.specs.Knowledge.{drew, lifted, stayed, given, joined, spent}
+use Rattle.turn_table.specs.Knowledge.{drew, stayed, given, joined, spent}
 use Rattle.turn_table.specs.Rule.{Truth, Drawn, clock, grown_truth}
 
 module _ {N B : Type 0} (time : N → Option ℕ) where

@@ -1,15 +1,13 @@
 -- A seat that has all that a table gives knows that no other seat is left.
-use Rattle.std.proofs.Common.{◌≡◌, ℕ, zero, suc, ◌+◌, ◌^◌, ◌<◌, ◌≤◌, ◌≢◌, ◌⊎◌, max, Bool, true, cond, List, [], ◌∷◌, length, map, get_or, Option, Some, refl, ap, sym, ◌∙◌, subst, ⊎_elim, arith}
+use Rattle.std.proofs.Common.{◌≡◌, ℕ, ◌+◌, ◌^◌, ◌<◌, ◌≤◌, ◌≢◌, max, Bool, true, cond, List, [], length, map, Option, Some, ap, sym, ◌∙◌, subst, ⊎_elim, arith}
 use Rattle.std.proofs.lemmas.Bool.{cases_lt}
 use Rattle.std.proofs.lemmas.List.{length-map}
-use mathlib.Core.Option.{none, some, some-injective}
-use mathlib.Core.Option as maybe
-use lib.ListN.{get_elem?}
-use Rattle.turn_lock.specs.Client.{Homes, IsHome, AllHome, Ended, all_home}
-use Rattle.turn_facts.specs.Counts.{count, Among, total}
+use mathlib.Core.Option.{some}
+use Rattle.turn_lock.specs.Client.{Homes, AllHome, Ended, all_home}
+use Rattle.turn_facts.specs.Counts.{count, total}
 use Rattle.turn_facts.specs.Prefixes.{IsAt}
 use Rattle.turn_facts.proofs.Counts.{count-nil}
-use Rattle.turn_facts.proofs.Places.{same_or, at_below, at_one, at_get, at_some, at_map, at_map_back, same_lists}
+use Rattle.turn_facts.proofs.Places.{same_or, at_below, at_one, at_get, at_map, at_map_back, same_lists}
 use Rattle.turn_facts.proofs.Totals.{total_least, total_alone, total_some}
 use Rattle.turn_table.specs.declared.knows.Know.{Know}
 use Rattle.turn_table.specs.Knowledge.{at_slot, weight, allowance}

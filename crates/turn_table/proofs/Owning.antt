@@ -1,8 +1,7 @@
 -- Whose notes they are, at each step.
-use Rattle.std.proofs.Common.{◌≡◌, ℕ, zero, suc, ◌+◌, ◌<◌, ◌≤◌, ◌≢◌, ◌⊎◌, Bool, true, false, cond, List, [], ◌∷◌, ◌++◌, length, get_or, set, drop, refl, ap, sym, ◌∙◌, subst, inl, inr, ⊎_elim, arith, get_or-set_same, get_or-set_other, true≢false}
+use Rattle.std.proofs.Common.{◌≡◌, ℕ, zero, suc, ◌+◌, ◌<◌, ◌≤◌, ◌≢◌, Bool, true, cond, List, [], ◌∷◌, ◌++◌, length, get_or, set, drop, ap, sym, ◌∙◌, subst, ⊎_elim, arith, get_or-set_same, get_or-set_other, true≢false}
 use Rattle.std.proofs.lemmas.Bool.{cases_lt}
 use mathlib.Core.Option.{some-injective, some-ne-none}
-use lib.ListN.{get_elem?}
 use Rattle.turn_facts.specs.Counts.{count, Among, total}
 use Rattle.turn_facts.specs.Notes.{of}
 use Rattle.turn_facts.specs.Prefixes.{StartsWith, IsAt, longer}
@@ -12,8 +11,7 @@ use Rattle.turn_facts.proofs.Places.{same_or, at_else, each_set, each_more, each
 use Rattle.turn_facts.proofs.Prefixes.{longer_begins, longer_left, longer_right}
 use Rattle.turn_facts.proofs.Totals.{total_set, total_two, total_least, total_cut, total_pair}
 use Rattle.turn_table.specs.declared.knows.Know.{Know}
-use Rattle.turn_table.specs.declared.knows.Part.{Part}
-use Rattle.turn_table.specs.Knowledge.{at_slot, longer_each, own, numbers, part, entered, counted, numbered, stayed, given, joined, spent}
+use Rattle.turn_table.specs.Knowledge.{at_slot, own, numbers, part, counted, numbered, stayed, given, joined, spent}
 use Rattle.turn_table.specs.Rule.{Truth, SeesAll, Owns, OwnsAll, Numbered, Grew, IsGrown, next_seat, grown_truth}
 use Rattle.turn_table.proofs.Sharing.{at-longer_each}
 

@@ -1,18 +1,18 @@
 -- What seats have seen, and the values at home, at each step.
-use Rattle.std.proofs.Common.{◌≡◌, ℕ, zero, suc, ◌+◌, ◌<◌, ◌≤◌, ◌≢◌, ◌⊎◌, Bool, true, false, List, [], ◌∷◌, ◌++◌, length, get_or, set, drop, Option, Some, refl, ap, sym, ◌∙◌, subst, inl, inr, ⊎_elim, arith, length-set, get_or-set_same, get_or-set_other}
+use Rattle.std.proofs.Common.{◌≡◌, ℕ, ◌+◌, ◌<◌, ◌≤◌, ◌≢◌, true, List, [], ◌∷◌, length, set, drop, Option, Some, ap, sym, ◌∙◌, subst, ⊎_elim, arith, length-set, get_or-set_same, get_or-set_other}
 use mathlib.Core.Option.{none, some, some-injective, some-ne-none}
 use mathlib.Core.Option as maybe
 use lib.ListN.{get_elem?}
 use Rattle.turn_lock.specs.Client.{Homes, IsHome, IsOut}
 use Rattle.turn_facts.specs.Counts.{count, Among, total}
-use Rattle.turn_facts.specs.Prefixes.{StartsWith, IsAt, put}
-use Rattle.turn_facts.proofs.Counts.{count-here, count-else, count-nil}
-use Rattle.turn_facts.proofs.Places.{same_or, at_set, at_below, at_here, at_else, at_one, each_set, each_set_else, some_set, put_here, put_else}
+use Rattle.turn_facts.specs.Prefixes.{StartsWith, IsAt}
+use Rattle.turn_facts.proofs.Counts.{count-here, count-else}
+use Rattle.turn_facts.proofs.Places.{same_or, at_set, at_below, at_here, at_else, each_set, each_set_else, some_set, put_here, put_else}
 use Rattle.turn_facts.proofs.Prefixes.{starts_all, starts_trans}
-use Rattle.turn_facts.proofs.Totals.{total_set, total_two, total_least}
+use Rattle.turn_facts.proofs.Totals.{total_set, total_two}
 use Rattle.turn_table.specs.declared.knows.Know.{Know}
 use Rattle.turn_table.specs.Knowledge.{at_slot, entered, counted, left}
-use Rattle.turn_table.specs.Rule.{Truth, Sees, SeesAll, IsNewest, Shown, gone, grown_truth}
+use Rattle.turn_table.specs.Rule.{Truth, SeesAll, IsNewest, Shown, gone, grown_truth}
 
 module _ {S N B : Type 0} (journal : S → List N) (base : S → B) where
   -- a step that changes nothing of this part

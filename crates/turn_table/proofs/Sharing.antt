@@ -1,8 +1,7 @@
 -- What seats have seen, where a seat is split off or joined.
-use Rattle.std.proofs.Common.{◌≡◌, ℕ, zero, suc, ◌+◌, ◌<◌, ◌≤◌, ◌≢◌, ◌⊎◌, Bool, true, false, List, [], ◌∷◌, ◌++◌, length, get_or, set, Option, Some, refl, ap, sym, ◌∙◌, subst, inl, inr, ⊎_elim, arith, true≢false}
-use lib.ListN.{get_elem?}
+use Rattle.std.proofs.Common.{◌≡◌, ℕ, zero, suc, ◌<◌, ◌≤◌, ◌≢◌, true, List, [], ◌∷◌, ◌++◌, length, set, refl, ap, sym, ◌∙◌, subst, ⊎_elim, arith, true≢false}
 use Rattle.turn_lock.specs.Client.{Homes}
-use Rattle.turn_facts.specs.Counts.{count, Among, total}
+use Rattle.turn_facts.specs.Counts.{count}
 use Rattle.turn_facts.specs.Prefixes.{StartsWith, IsAt, longer}
 use Rattle.turn_facts.proofs.Counts.{count-nil}
 use Rattle.turn_facts.proofs.Places.{same_or, at_below, at_here, at_else, at_one, at_longer, each_set, each_more, some_set}
@@ -10,7 +9,7 @@ use Rattle.turn_facts.proofs.Prefixes.{starts_nil, longer_is, longer_begins, lon
 use Rattle.turn_facts.proofs.Totals.{total_cut, total_pair}
 use Rattle.turn_table.specs.declared.knows.Know.{Know}
 use Rattle.turn_table.specs.Knowledge.{at_slot, longer_each, stayed, given, joined, spent}
-use Rattle.turn_table.specs.Rule.{Truth, Sees, SeesAll, IsNewest, Shown, gone}
+use Rattle.turn_table.specs.Rule.{Truth, SeesAll, IsNewest, Shown}
 
 module _ {N : Type 0} where
   pub at-longer_each : (ls ms : List (List N)) (k : ℕ) → length ls ≡ length ms → at_slot (longer_each ls ms) k ≡ longer (at_slot ls k) (at_slot ms k)

@@ -1,20 +1,18 @@
 -- Each step keeps the rule, and tells what it tells.
-use Rattle.std.proofs.Common.{◌≡◌, ℕ, zero, suc, ◌+◌, ◌-◌, ◌%◌, ◌^◌, ◌<◌, ◌≤◌, ◌≢◌, ◌⊎◌, max, Bool, true, false, cond, List, [], ◌∷◌, ◌++◌, length, length-append, length-set, get_or, drop, set, Option, Some, refl, ap, sym, ◌∙◌, subst, inl, inr, ⊎_elim, arith, mod-eq_of_lt, get_or-set_same, get_or-set_other}
+use Rattle.std.proofs.Common.{◌≡◌, ℕ, ◌+◌, ◌%◌, ◌^◌, ◌<◌, ◌≤◌, max, true, List, [], ◌∷◌, length, length-set, get_or, drop, set, Option, Some, refl, ap, sym, ◌∙◌, subst, inl, inr, ⊎_elim, arith, mod-eq_of_lt, get_or-set_same, get_or-set_other}
 use Rattle.std.proofs.lemmas.Bool.{cases_lt}
 use mathlib.Core.Option.{none, some, some-ne-none}
-use lib.ListN.{get_elem?}
-use Rattle.turn_lock.specs.Client.{Homes, IsHome, IsOut, Gains, Gives, Moves, MovesOut, Forks, Merges, AllHome}
+use Rattle.turn_lock.specs.Client.{Gains, Gives, Moves, MovesOut, Forks, Merges}
 use Rattle.turn_facts.specs.Counts.{count, Among, total}
 use Rattle.turn_facts.specs.Notes.{of, times, Adds}
 use Rattle.turn_facts.specs.Prefixes.{StartsWith, IsAt}
-use Rattle.turn_facts.proofs.Counts.{count-here, count-drop, count-nil}
+use Rattle.turn_facts.proofs.Counts.{count-drop}
 use Rattle.turn_facts.proofs.Notes.{times_starts, adds_others, adds_times, adds_starts}
-use Rattle.turn_facts.proofs.Places.{same_or, at_below, at_else, each_set, each_more}
-use Rattle.turn_facts.proofs.Totals.{total_least, total_alone, total_some}
+use Rattle.turn_facts.proofs.Places.{at_below, at_else, each_set, each_more}
+use Rattle.turn_facts.proofs.Totals.{total_least}
 use Rattle.turn_table.specs.declared.knows.Know.{Know}
-use Rattle.turn_table.specs.declared.knows.Part.{Part}
-use Rattle.turn_table.specs.Knowledge.{at_slot, numbers, weight, entered, counted, left, drew, lifted, numbered, offered, settled, stayed, given, joined, spent}
-use Rattle.turn_table.specs.Rule.{Truth, Grew, IsGrown, SeesAll, OwnsAll, Kept, grown_truth, gone, clock, next_seat, Measured}
+use Rattle.turn_table.specs.Knowledge.{at_slot, numbers, entered, counted, left, drew, lifted, numbered, offered, settled, stayed, given, joined, spent}
+use Rattle.turn_table.specs.Rule.{Truth, IsGrown, SeesAll, Kept, grown_truth, clock, next_seat, Measured}
 use Rattle.turn_table.specs.Tells.{Took, Drew, Numbers, Settled}
 use Rattle.turn_table.proofs.Drawing.{drawn_kept, drawn_counts, drawn_draws, drawn_splits, drawn_joins}
 use Rattle.turn_table.proofs.Measuring.{measured_kept, measured_counts}

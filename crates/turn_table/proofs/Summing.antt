@@ -1,9 +1,8 @@
 -- What all seats have together, and the bounds on the clock and on the numbers of seats, at each step.
-use Rattle.std.proofs.Common.{◌≡◌, ℕ, zero, suc, ◌+◌, ◌-◌, ◌^◌, ◌<◌, ◌≤◌, ◌≢◌, ◌⊎◌, max, Bool, true, false, cond, List, [], ◌∷◌, ◌++◌, length, length-append, get_or, drop, set, refl, ap, sym, ◌∙◌, subst, arith}
-use lib.ListN.{get_elem?}
+use Rattle.std.proofs.Common.{◌≡◌, ℕ, suc, ◌+◌, ◌^◌, ◌<◌, ◌≤◌, max, Bool, true, cond, List, [], ◌∷◌, ◌++◌, length, length-append, get_or, drop, set, ap, ◌∙◌, arith}
 use Rattle.turn_facts.specs.Counts.{total}
 use Rattle.turn_facts.specs.Prefixes.{IsAt}
-use Rattle.turn_facts.proofs.Totals.{total_set, total_least, total_le, total_below, total_cut, total_pair}
+use Rattle.turn_facts.proofs.Totals.{total_set, total_below, total_cut, total_pair}
 use Rattle.turn_table.specs.declared.knows.Know.{Know}
 use Rattle.turn_table.specs.Knowledge.{weight, allowance, own, drew, lifted, numbered, stayed, given, joined, spent}
 use Rattle.turn_table.specs.Rule.{Truth, Summed, clock, next_seat}

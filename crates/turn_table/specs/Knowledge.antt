@@ -1,5 +1,5 @@
 -- What a seat knows, as functions of its parts.
-use Rattle.std.specs.Prelude.{◌≡◌, ℕ, ◌+◌, ◌-◌, ◌^◌, Bool, true, false, cond, List, [], ◌∷◌, ◌++◌, length, drop, slice_index_or, slice_set, max}
+use Rattle.std.specs.Prelude.{ℕ, ◌+◌, ◌-◌, ◌^◌, true, false, cond, List, [], ◌∷◌, ◌++◌, length, drop, slice_index_or, slice_set, max}
 use Rattle.turn_facts.specs.Prefixes.{longer}
 use Rattle.turn_table.specs.declared.knows.Know.{Know}
 use Rattle.turn_table.specs.declared.knows.Part.{Part}

@@ -1,5 +1,5 @@
 -- What each step tells the seat that takes it.
-use Rattle.std.specs.Prelude.{◌≡◌, ℕ, ◌+◌, ◌^◌, ◌<◌, ◌≤◌, List, [], map, length, drop, max, Option}
+use Rattle.std.specs.Prelude.{◌≡◌, ℕ, ◌+◌, ◌^◌, ◌<◌, ◌≤◌, List, map, length, max, Option}
 use Rattle.turn_facts.specs.Counts.{Among, NoneTwice}
 use Rattle.turn_facts.specs.Notes.{of, times}
 use Rattle.turn_facts.specs.Prefixes.{StartsWith, IsAt}

@@ -1,6 +1,5 @@
-use Rattle.std.proofs.Common.{ℕ, List, ap, ◌∙◌, ◌<◌, ◌≤◌, ◌^◌, ◌+◌, max, sym, subst}
+use Rattle.std.proofs.Common.{ℕ, ap, ◌∙◌, ◌<◌, ◌≤◌, ◌^◌, ◌+◌, max, sym, subst}
 use Rattle.turn_table.specs.Seats.{Table}
-use Rattle.turn_table.specs.Rule.{clock}
 use Rattle.turn_table.proofs.Calls.{closes_call, closed}
 use Rattle.turn_table.proofs.tables.Turns.close.Goals as goal
 

@@ -1,4 +1,4 @@
-use Rattle.std.proofs.Common.{ap, ◌∙◌, sym, subst, List}
+use Rattle.std.proofs.Common.{ap}
 use Rattle.turn_lock.specs.Passes.{known}
 use Rattle.turn_lock.specs.declared.locks.Turn as lock
 use Rattle.turn_table.proofs.Calls.{counts_call, leaves_call}

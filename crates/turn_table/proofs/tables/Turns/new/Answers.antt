@@ -1,4 +1,4 @@
-use Rattle.std.proofs.Common.{ap, ◌∙◌, List, Vec}
+use Rattle.std.proofs.Common.{ap, ◌∙◌, List}
 use Rattle.turn_table.specs.Rule.{first_words}
 use Rattle.turn_table.proofs.Starting.{opens_at}
 use Rattle.turn_table.proofs.tables.Turns.new.Goals as goal

@@ -1,4 +1,4 @@
-use Rattle.std.proofs.Common.{arith, ◌≤◌}
+use Rattle.std.proofs.Common.{arith}
 use Rattle.turn_lock.specs.Passes.{known}
 use Rattle.turn_table.proofs.Calls.{numbers_call, splits_call}
 use Rattle.turn_table.proofs.Steps.{offers}
