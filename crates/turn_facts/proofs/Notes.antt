@@ -1,10 +1,11 @@
 -- The notes of a seat, and the timestamps of notes, as a journal grows.
-use Rattle.std.proofs.Common.{◌≡◌, ℕ, ◌+◌, ◌≢◌, ◌⊎◌, cond, Bool, eq-eqb, ne_eqb, List, [], ◌∷◌, ◌++◌, length, All, Option, Some, None, refl, ap, sym, ◌∙◌, subst, arith, append-nil, append_assoc, length-append, inl, inr, ⊎_elim}
+use Rattle.std.proofs.Common.{◌≡◌, ℕ, ◌+◌, ◌<◌, ◌≤◌, ◌≢◌, ◌⊎◌, cond, Bool, eq-eqb, ne_eqb, List, [], ◌∷◌, ◌++◌, length, All, Option, Some, None, refl, ap, sym, ◌∙◌, subst, arith, append-nil, append_assoc, length-append, inl, inr, ⊎_elim}
+use Rattle.std.proofs.lemmas.Bool.{cases_lt}
 use Rattle.std.proofs.lemmas.List.Elements.{All-tail, All-cons, All-append}
 use Rattle.turn_facts.specs.Counts.{count, Among}
 use Rattle.turn_facts.specs.Notes.{of, times, with_time, IsOwn, Adds}
 use Rattle.turn_facts.specs.Prefixes.{StartsWith}
-use Rattle.turn_facts.proofs.Counts.{count-else, count-nil}
+use Rattle.turn_facts.proofs.Counts.{count-append, count-else, count-nil}
 use Rattle.turn_facts.proofs.Places.{same_or}
 use Rattle.turn_facts.proofs.Prefixes.{starts_same}
 
@@ -87,3 +88,23 @@ module _ {N : Type 0} (number : N → ℕ) where
 
     pub adds_starts : {n : ℕ} {drawn : List ℕ} {l m : List N} → Adds number time n drawn l m → StartsWith m l
     adds_starts a = record { rest = a.notes; is = a.is }
+
+    -- the timestamps of a beginning of a journal are among those of the journal
+    pub times_starts : {l m : List N} (t : ℕ) → StartsWith l m → Among t (times time m) → Among t (times time l)
+    times_starts {l} {m} t s a =
+        let e : times time l ≡ times time m ++ times time s.rest = ap (times time) s.is ∙ times-append m s.rest in
+        let c : count t (times time l) ≡ count t (times time m ++ times time s.rest) = ap (count t) e in
+        let d : count t (times time m ++ times time s.rest) ≡ count t (times time m) + count t (times time s.rest) = count-append t (times time m) (times time s.rest) in
+        omega arith
+
+    -- what a seat adds to a journal is nothing of another seat
+    pub adds_others : {n : ℕ} {drawn : List ℕ} {l m : List N} (k : ℕ) → Adds number time n drawn l m → n ≢ k → of number k m ≡ of number k l
+    adds_others {n} {drawn} {l} {m} k a ne = ap (of number k) a.is ∙ of-append k l a.notes ∙ ap (λ (x : List N). of number k l ++ x) (of-others n k drawn a.notes a.own ne) ∙ append-nil (of number k l)
+
+    -- its timestamps are those of before and numbers that the seat drew
+    pub adds_times : {n : ℕ} {drawn : List ℕ} {l m : List N} (t : ℕ) → Adds number time n drawn l m → Among t (times time m) → (Among t (times time l)) ⊎ (Among t drawn)
+    adds_times {n} {drawn} {l} {m} t a b =
+        let e : times time m ≡ times time l ++ times time a.notes = ap (times time) a.is ∙ times-append l a.notes in
+        let c : count t (times time m) ≡ count t (times time l ++ times time a.notes) = ap (count t) e in
+        let d : count t (times time l ++ times time a.notes) ≡ count t (times time l) + count t (times time a.notes) = count-append t (times time l) (times time a.notes) in
+        ⊎_elim (λ (h : 0 < count t (times time l)). inl (omega arith)) (λ (h : count t (times time l) ≤ 0). inr (times-own n drawn a.notes a.own t (omega arith))) (cases_lt 0 (count t (times time l)))

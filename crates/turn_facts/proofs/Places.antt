@@ -1,7 +1,7 @@
 -- Lists read by place, and functions changed at one place.
-use Rattle.std.proofs.Common.{◌≡◌, ℕ, zero, suc, ◌<◌, ◌≤◌, ◌≢◌, ◌⊎◌, cond, Bool, eq-eqb, ne_eqb, List, [], ◌∷◌, ◌++◌, length, set, refl, ap, sym, inl, inr, ⊎_elim, arith, subst}
+use Rattle.std.proofs.Common.{◌≡◌, ℕ, zero, suc, map, get_or, ◌<◌, ◌≤◌, ◌≢◌, ◌⊎◌, cond, Bool, eq-eqb, ne_eqb, List, [], ◌∷◌, ◌++◌, length, set, refl, ap, sym, inl, inr, ⊎_elim, arith, subst, ◌∙◌}
 use Rattle.std.proofs.lemmas.Bool.{cases_lt}
-use mathlib.Core.Option.{some-injective, some-ne-none}
+use mathlib.Core.Option.{some, some-injective, some-ne-none}
 use lib.ListN.{get_elem?}
 use Rattle.turn_facts.specs.Prefixes.{IsAt, put}
 
@@ -65,3 +65,41 @@ module _ {A : Type 0} where
   pub put_else : (f : ℕ → A) (k : ℕ) (a : A) (j : ℕ) → j ≢ k → put f k a j ≡ f j
   unfolding put
   put_else f k a j n = ap (λ (b : Bool). cond b a (f j)) (ne_eqb j k n)
+
+  -- the same where only the other places matter
+  pub each_set_else : (P : A → Type 0) (l : List A) (i : ℕ) (a : A) → ((j : ℕ) (b : A) → j ≢ i → IsAt l j b → P b) → P a → (j : ℕ) (b : A) → IsAt (set l i a) j b → P b
+  each_set_else P l i a h p j b e = ⊎_elim (λ t. subst P t.1 p) (λ t. h j b t.0 t.1) (at_set l i j a b e)
+
+  -- what holds at some place still does where what holds of the old element holds of the new one
+  pub some_set : (Q : A → Type 0) (l : List A) (i : ℕ) (a b : A) → IsAt l i a → (Q a → Q b) → (j : ℕ) (c : A) → IsAt l j c → Q c → (j' : ℕ) × (c' : A) × IsAt (set l i b) j' c' × Q c'
+  some_set Q l i a b e f j c d q =
+      ⊎_elim (λ (p : j ≡ i). let at_i : IsAt l i c = subst (λ (n : ℕ). IsAt l n c) p d in let same : c ≡ a = at_one l i c a at_i e in (i, b, at_here l i b (at_below l i a e), f (subst Q same q)))
+      (λ (p : j ≢ i). (j, c, at_else l i j b p ∙ d, q))
+      (same_or j i)
+
+  pub at_get : (l : List A) (k : ℕ) (a d : A) → IsAt l k a → get_or l k d ≡ a
+  at_get [] k a d e = absurd (some-ne-none a (sym e))
+  at_get (x ∷ xs) zero a d e = some-injective x a e
+  at_get (x ∷ xs) (suc k) a d e = at_get xs k a d e
+
+  pub at_some : (l : List A) (k : ℕ) → k < length l → (a : A) × IsAt l k a
+  at_some [] k h = absurd (omega arith)
+  at_some (x ∷ xs) zero h = (x, refl)
+  at_some (x ∷ xs) (suc k) h = at_some xs k (omega arith)
+
+  -- lists of one length are equal where they are so at each place
+  pub same_lists : (l m : List A) → length l ≡ length m → ((k : ℕ) (a b : A) → IsAt l k a → IsAt m k b → a ≡ b) → l ≡ m
+  same_lists [] [] e h = refl
+  same_lists [] (y ∷ m) e h = absurd (omega arith)
+  same_lists (x ∷ l) [] e h = absurd (omega arith)
+  same_lists (x ∷ l) (y ∷ m) e h = let p : x ≡ y = h 0 x y refl refl in let q : l ≡ m = same_lists l m (omega arith) (λ k a b. h (suc k) a b) in cc
+
+  pub at_map : {B : Type 0} (f : A → B) (l : List A) (k : ℕ) (a : A) → IsAt l k a → IsAt (map f l) k (f a)
+  at_map f [] k a e = absurd (some-ne-none a (sym e))
+  at_map f (x ∷ xs) zero a e = ap (λ (y : A). some (f y)) (some-injective x a e)
+  at_map f (x ∷ xs) (suc k) a e = at_map f xs k a e
+
+  pub at_map_back : {B : Type 0} (f : A → B) (l : List A) (k : ℕ) (b : B) → IsAt (map f l) k b → (a : A) × IsAt l k a × (f a ≡ b)
+  at_map_back f [] k b e = absurd (some-ne-none b (sym e))
+  at_map_back f (x ∷ xs) zero b e = (x, refl, some-injective (f x) b e)
+  at_map_back f (x ∷ xs) (suc k) b e = at_map_back f xs k b e

@@ -44,3 +44,24 @@ module _ {C : Type 0} (f : C → ℕ) where
   -- where one place has all of the sum, no other has any of it
   pub total_alone : (vs : List C) (i j : ℕ) (v w : C) → IsAt vs i v → IsAt vs j w → i ≢ j → total f vs ≤ f v → f w ≡ 0
   total_alone vs i j v w d e n h = let t : f v + f w ≤ total f vs = total_two vs i j v w d e n in omega arith
+
+module _ {C : Type 0} where
+  pub total_le : (f g : C → ℕ) → ((v : C) → f v ≤ g v) → (vs : List C) → total f vs ≤ total g vs
+  unfolding total
+  total_le f g h [] = omega arith
+  total_le f g h (x ∷ vs) = let a : total f vs ≤ total g vs = total_le f g h vs in let b : f x ≤ g x = h x in omega arith
+
+  -- by how much the sums differ at one place they differ at least together
+  pub total_below : (f g : C → ℕ) → ((v : C) → f v ≤ g v) → (vs : List C) (id : ℕ) (v : C) → IsAt vs id v → total f vs + g v ≤ total g vs + f v
+  unfolding total
+  total_below f g h [] id v e = absurd (some-ne-none v (sym e))
+  total_below f g h (x ∷ vs) zero v e = let a : total f vs ≤ total g vs = total_le f g h vs in let b : f x ≡ f v = ap f (some-injective x v e) in let c : g x ≡ g v = ap g (some-injective x v e) in omega arith
+  total_below f g h (x ∷ vs) (suc id) v e = let a : total f vs + g v ≤ total g vs + f v = total_below f g h vs id v e in let b : f x ≤ g x = h x in omega arith
+
+  -- where two become two others of the same sum
+  pub total_pair : (f : C → ℕ) (vs : List C) (id other : ℕ) (v w v' w' : C) → IsAt vs id v → IsAt (set vs id v') other w → f v' + f w' ≡ f v + f w → total f (set (set vs id v') other w') ≡ total f vs
+  total_pair f vs id other v w v' w' d e h = let a : total f (set vs id v') + f v ≡ total f vs + f v' = total_set f vs id v v' d in let b : total f (set (set vs id v') other w') + f w ≡ total f (set vs id v') + f w' = total_set f (set vs id v') other w w' e in omega arith
+
+  -- where one becomes two of the same sum
+  pub total_cut : (f : C → ℕ) (vs : List C) (id : ℕ) (v v' w : C) → IsAt vs id v → f v' + f w ≡ f v → total f (set vs id v' ++ w ∷ []) ≡ total f vs
+  total_cut f vs id v v' w d h = let a : total f (set vs id v') + f v ≡ total f vs + f v' = total_set f vs id v v' d in let b : total f (set vs id v' ++ w ∷ []) ≡ total f (set vs id v') + f w = total_more f (set vs id v') w in omega arith

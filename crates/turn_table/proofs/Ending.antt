@@ -1,0 +1,51 @@
+-- A seat that has all that a table gives knows that no other seat is left.
+use Rattle.std.proofs.Common.{◌≡◌, ℕ, ◌+◌, ◌^◌, ◌<◌, ◌≤◌, ◌≢◌, max, Bool, true, cond, List, [], length, map, Option, Some, ap, sym, ◌∙◌, subst, ⊎_elim, arith}
+use Rattle.std.proofs.lemmas.Bool.{cases_lt}
+use Rattle.std.proofs.lemmas.List.{length-map}
+use mathlib.Core.Option.{some}
+use Rattle.turn_lock.specs.Client.{Homes, AllHome, Ended, all_home}
+use Rattle.turn_facts.specs.Counts.{count, total}
+use Rattle.turn_facts.specs.Prefixes.{IsAt}
+use Rattle.turn_facts.proofs.Counts.{count-nil}
+use Rattle.turn_facts.proofs.Places.{same_or, at_below, at_one, at_get, at_map, at_map_back, same_lists}
+use Rattle.turn_facts.proofs.Totals.{total_least, total_alone, total_some}
+use Rattle.turn_table.specs.declared.knows.Know.{Know}
+use Rattle.turn_table.specs.Knowledge.{at_slot, weight, allowance}
+use Rattle.turn_table.specs.Rule.{Truth, SeesAll, Kept, gone, clock}
+use Rattle.turn_table.specs.Tells.{Ends}
+
+module _ {S N B : Type 0} (journal : S → List N) (base : S → B) (number : N → ℕ) (time : N → Option ℕ) where
+  -- no other seat is left
+  alone : {ws : List ℕ} {hs : Homes S} {vs : List (Know N B)} (id : ℕ) (v : Know N B) → Kept journal base number time ws hs vs → IsAt vs id v → weight v ≡ 2 ^ 40 + 1 → (j : ℕ) (u : Know N B) → IsAt vs j u → u.live ≡ true → (j ≡ id) × (u ≡ v)
+  alone {ws} {hs} {vs} id v s e all j u at live =
+      ⊎_elim (λ (p : j ≡ id). (p, at_one vs id u v (subst (λ (n : ℕ). IsAt vs n u) p at) e))
+      (λ (p : j ≢ id). let z : weight u ≡ 0 = total_alone weight vs id j v u e at (λ q. p (sym q)) (let w : total weight vs ≡ 2 ^ 40 + 1 = s.sums.weights in omega arith) in let c : cond {A = ℕ} u.live 1 0 ≡ 1 = ap (λ (b : Bool). cond {A = ℕ} b 1 0) live in absurd (omega arith)) (same_or j id)
+
+  pub ends_home : (id : ℕ) (v : Know N B) → weight v ≡ 2 ^ 40 + 1 → v.inside ≡ [] → AllHome (Kept journal base number time) id v
+  ends_home id v all ins ws hs vs s e k out =
+      let f : Know N B → ℕ = λ u. count k u.inside in
+      let one : total f vs ≡ 1 = s.shown.insides k ∙ ap gone out in
+      let t = total_some f vs (omega arith) in
+      let live : t.1.live ≡ true = ((s.shown.views t.0 t.1 t.2).inside k t.3).0 in
+      let is_v : t.1 ≡ v = (alone id v s e all t.0 t.1 t.2 live).1 in
+      let z : count k t.1.inside ≡ 0 = ap (λ (u : Know N B). count k u.inside) is_v ∙ ap (count k) ins ∙ count-nil k in
+      let some_of : 1 ≤ count k t.1.inside = t.3 in
+      omega arith
+
+  pub ends : (id : ℕ) (v : Know N B) (ws : List ℕ) (xs : List S) → v.live ≡ true → weight v ≡ 2 ^ 40 + 1 → Ended (Kept journal base number time) id v ws xs → Ends journal base v ws xs
+  ends id v ws xs live all end =
+      let vs : List (Know N B) = end.0 in
+      let s : Kept journal base number time ws (all_home xs) vs = end.1 in
+      let e : IsAt vs id v = end.2 in
+      let t : Truth N B = s.truth in
+      let sv : SeesAll t (length (all_home xs)) v = s.shown.views id v e in
+      let many : length (all_home xs) ≡ length xs = length-map xs (λ (x : S). some (Some x)) in
+      let newest : (k : ℕ) → k < length xs → at_slot v.seen k ≡ t.journals k = λ k h. let n = s.shown.newest k (omega arith) in ap (λ (u : Know N B). at_slot u.seen k) (sym (alone id v s e all n.0 n.1 n.2 n.3.0).1) ∙ n.3.1 in
+      let home : (k : ℕ) (x : S) → IsAt xs k x → (journal x ≡ t.journals k) × IsAt t.bases k (base x) = λ k x at. s.shown.home k x (at_map (λ (y : S). some (Some y)) xs k x at) in
+      record {
+        journals = same_lists (map journal xs) v.seen (length-map xs journal ∙ sym (sv.long live ∙ many)) (λ k a b at bt. let x = at_map_back journal xs k a at in let below : k < length xs = at_below xs k x.0 x.1 in sym x.2 ∙ (home k x.0 x.1).0 ∙ sym (newest k below) ∙ at_get v.seen k b [] bt);
+        bases = same_lists (map base xs) v.bases (length-map xs base ∙ sym (ap length (sv.told live).0 ∙ s.shown.based ∙ many)) (λ k a b at bt. let x = at_map_back base xs k a at in sym x.2 ∙ at_one t.bases k (base x.0) b (home k x.0 x.1).1 (subst (λ (l : List B). IsAt l k b) (sv.told live).0 bt));
+        first = let a : v.first ≡ t.first = (sv.told live).1 in let b : t.first ≤ clock ws = s.drawn.first in omega arith;
+        drawn = λ x a. ⊎_elim (λ (h : x < clock ws). h) (λ (h : clock ws ≤ x). let f : Know N B → ℕ = λ u. count x u.drawn in let z : total f vs ≡ 0 = s.drawn.below x h in let b : f v ≤ total f vs = total_least f vs id v e in absurd (omega arith)) (cases_lt x (clock ws));
+        most = let a : v.first ≡ t.first = (sv.told live).1 in let b : clock ws + total allowance vs ≤ 2 ^ 40 + max t.first (2 ^ 63) = s.sums.room in let c : clock ws ≤ 2 ^ 40 + max t.first (2 ^ 63) = omega arith in subst (λ (n : ℕ). clock ws ≤ 2 ^ 40 + max n (2 ^ 63)) (sym a) c;
+      }

@@ -1,0 +1,10 @@
+pub mod Calls
+pub mod Drawing
+pub mod Ending
+pub mod Measuring
+pub mod Owning
+pub mod Seeing
+pub mod Sharing
+pub mod Starting
+pub mod Steps
+pub mod Summing
