@@ -60,8 +60,8 @@ fn run(rt: &HostRuntime) -> Result<(), Fault> {
     let alloc = rt.alloc();
     let words = read_arguments(rt)?;
     let keeper = MapKeeper::new(alloc, Vec::new(alloc));
-    let mut input = StandardInput::new(rt);
-    let mut output = StandardOutput::new(rt);
+    let mut input = StandardInput::new(rt.stdin());
+    let mut output = StandardOutput::new(rt.stdout());
     let clock = SystemClock::new(rt);
     let Ended { status, keeper: _ } = serve(rt, alloc, &words, &mut input, &mut output, keeper, &clock, &OpenGate);
     match status {

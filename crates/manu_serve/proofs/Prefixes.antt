@@ -1,6 +1,7 @@
 -- What the first bytes of an input already say.
-use Rattle.std.proofs.Common.{◌≡◌, ◌≢◌, ◌⊎◌, inl, inr, ℕ, zero, suc, ◌+◌, ◌<◌, ◌≤◌, List, [], ◌∷◌, ◌++◌, length, length-take, get_or, take, ap, sym, ◌∙◌, subst, arith, Option, Some, None, IsSome, append-nil, append_assoc, refl, ◌↔◌, length-append}
-use Rattle.std.specs.Io.KnownBytes.{Consumes, Keeps, IsAtEnd}
+use Rattle.std.proofs.Common.{◌≡◌, ◌≢◌, ◌⊎◌, inl, inr, ℕ, zero, suc, ◌+◌, ◌<◌, ◌≤◌, List, [], ◌∷◌, ◌++◌, length, length-take, get_or, take, drop, take_all, length-drop, ◌-◌, ap, sym, ◌∙◌, subst, arith, Option, Some, None, IsSome, append-nil, append_assoc, refl, ◌↔◌, length-append}
+use Rattle.std.specs.Io.KnownBytes.{Consumes, Keeps, IsAtEnd, Appends}
+use Rattle.std.proofs.Math.Seq.{take-add}
 use Rattle.coarse_lists.specs.Collections.{IsInRange}
 use Rattle.manu_edge.specs.Faults.{Rose}
 use Rattle.manu_serve.specs.declared.reading.ReadError.{ReadError}
@@ -55,8 +56,8 @@ le-or-lt (suc a) (suc b) = elim (le-or-lt a b) [ inl p ↦ inl (omega arith) | i
 pub opened : (bytes : List ℕ) (from end : ℕ) → from ≤ length bytes → IsOpen (take from bytes) → ((k : ℕ) → from ≤ k → k < end → get_or bytes k 0 ≢ 10) → (k : ℕ) → k < end → get_or bytes k 0 ≢ 10
 opened bytes from end within unended later k lt here =
     elim (le-or-lt from k) [
-      inl p ↦ later k p lt here
-    | inr q ↦ unended k (omega (arith, length-take-le from bytes within)) (get_or-take from bytes k 0 q ∙ here)
+      | inl p ↦ later k p lt here
+      | inr q ↦ unended k (omega (arith, length-take-le from bytes within)) (get_or-take from bytes k 0 q ∙ here)
     ]
 
 -- line 1, where the input has come to its end
@@ -136,6 +137,24 @@ consumed_more None b c bytes piece h k = tt
 consumed_more (Some xs) None c bytes piece h k = absurd h
 consumed_more (Some xs) (Some ys) None bytes piece h k = absurd k
 consumed_more (Some xs) (Some ys) (Some zs) bytes piece h k = h ∙ ap (λ l. bytes ++ l) k ∙ sym (append_assoc bytes piece zs)
+
+-- at the end nothing more was taken
+pub consumed_last : (a b c : Option (List ℕ)) (bytes piece : List ℕ) (n : ℕ) → n ≡ 0 → Consumes a b bytes → Consumes b c (take n piece) → Consumes a c bytes
+consumed_last a b c bytes piece n none h k =
+    let last : Consumes b c (take 0 piece) = subst (λ (m : ℕ). Consumes b c (take m piece)) none k in
+    subst (λ (l : List ℕ). Consumes a c l) (append-nil bytes) (consumed_more a b c bytes [] h last)
+
+pub appended_more : (a b c : Option (List ℕ)) (xs ys : List ℕ) → Appends a b xs → Appends b c ys → Appends a c (xs ++ ys)
+appended_more None b c xs ys h k = tt
+appended_more (Some old) None c xs ys h k = absurd h
+appended_more (Some old) (Some mid) None xs ys h k = absurd k
+appended_more (Some old) (Some mid) (Some new) xs ys h k = k ∙ ap (λ l. l ++ ys) h ∙ append_assoc old xs ys
+
+pub written_more : (a b c : Option (List ℕ)) (bytes : List ℕ) (at n : ℕ) → Appends a b (take at bytes) → Appends b c (take n (take (length bytes - at) (drop at bytes))) → Appends a c (take (at + n) bytes)
+written_more a b c bytes at n h k =
+    let all : take (length bytes - at) (drop at bytes) ≡ drop at bytes = take_all _ _ (omega (arith, length-drop at bytes)) in
+    let piece : Appends b c (take n (drop at bytes)) = subst (λ (l : List ℕ). Appends b c (take n l)) all k in
+    subst (λ (l : List ℕ). Appends a c l) (sym (take-add at n bytes)) (appended_more a b c (take at bytes) (take n (drop at bytes)) h piece)
 
 pub ends_cause : (error : ReadError) (a c : Option (List ℕ)) (bytes : List ℕ) (before now : ℕ) → EndsReading error bytes → Consumes a c bytes → HasReadCause error a before now
 ends_cause BadHeader None c bytes before now h k = tt

@@ -1,1 +1,4 @@
+pub mod Answerings
+pub mod Paces
 pub mod Readings
+pub mod Servings

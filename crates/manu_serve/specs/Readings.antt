@@ -1,5 +1,6 @@
 -- What ends the reading of an input, in the order of its bytes.
 use Rattle.std.specs.Prelude.{◌≡◌, ◌≢◌, ◌↔◌, ℕ, ◌<◌, ◌≤◌, List, slice_index, ◌++◌, length, Option, Some, None, IsSome, IfSome}
+use Rattle.std.specs.Io.KnownBytes.{Consumes, IsAtEnd}
 use Rattle.coarse_lists.specs.declared.collections.Collection.{Collection}
 use Rattle.coarse_lists.specs.Collections.{IsInRange}
 use Rattle.request_lines.specs.Headers.{header_of}
@@ -19,6 +20,14 @@ pub record HasBadHeader (input : List ℕ) : Type 0 where
 pub record PassesLimit (input : List ℕ) : Type 0 where
   pub past : IsWithin input → ⊥
   pub header : IsShort (first_line input) → IsSome (header_of (first_line input))
+
+-- the bytes are all that the source had left, within the limits, and line 1 makes the collection
+pub record IsRead (before now : Option (List ℕ)) (bytes : List ℕ) (collection : Collection) : Type 0 where
+  pub consumed : Consumes before now bytes
+  pub ended : IsAtEnd now
+  pub within : IsWithin bytes
+  pub header : header_of (first_line bytes) ≡ Some collection
+  pub in_range : IsInRange collection
 
 -- what stands behind an error, of the bytes that the source had left, where it tells them, and its count of faults
 abbrev pub HasReadCause : ReadError → Option (List ℕ) → ℕ → ℕ → Type 0

@@ -7,7 +7,7 @@ ghost use Rattle.input_lines.specs.Limits.{IsWithin};
 ghost use Rattle.coarse_lists.specs.Collections.{IsInRange};
 ghost use Rattle.request_lines.specs.Headers.{header_of};
 ghost use Rattle.manu_edge.specs.Faults.{Rose};
-ghost use Rattle.manu_serve.specs.Readings.{HasReadCause, EndsReading, EndedReading, IsOpen, KnowsHeader, IsSoFar};
+ghost use Rattle.manu_serve.specs.Readings.{IsRead, HasReadCause, EndsReading, EndedReading, IsOpen, KnowsHeader, IsSoFar};
 
 use coarse_lists::Collection;
 use input_lines::{MAX_INPUT, MAX_LINE, Progress, find_end};
@@ -48,26 +48,46 @@ pub struct Input {
 /// Reads all that a source has left. The first event in the order of the bytes ends it: that line 1
 /// has ended and makes no collection, that a limit is passed, that the source fails, or the end. At
 /// most one byte more than an input may have is taken.
-#[tactic(none)]
 pub fn read_input<S: Source>(alloc: Global, source: &mut S) -> Result<Input, ReadError>
     ensures later { S.faults source.old ≤ S.faults source.new }
     ensures bounded { (piece : List ℕ) × Consumes (S.left source.old) (S.left source.new) piece × (length piece ≤ MAX_INPUT + 1) }
-    ensures bytes { IfOk result (λ input. Consumes (S.left source.old) (S.left source.new) input.bytes.items × IsAtEnd (S.left source.new)) }
-    ensures within { IfOk result (λ input. IsWithin input.bytes.items) }
-    ensures header { IfOk result (λ input. header_of (first_line input.bytes.items) ≡ Some input.collection) }
-    ensures in_range { IfOk result (λ input. IsInRange input.collection) }
+    ensures read { IfOk result (λ input. IsRead (S.left source.old) (S.left source.new) input.bytes.items input.collection) }
     ensures cause { IfErr result (λ error. HasReadCause error (S.left source.old) (S.faults source.old) (S.faults source.new)) }
 {
-    let Ok(mut buffer) = vec![in alloc; 0u8; PIECE] else {
-        return Err(ReadError::Memory);
-    };
+    match vec![in alloc; 0u8; PIECE] {
+        Ok(mut buffer) => read_pieces(alloc, source, &mut buffer),
+        Err(_) => Err(ReadError::Memory),
+    }
+}
+
+// The same, piece after piece through a buffer.
+fn read_pieces<S: Source>(
+    alloc: Global,
+    source: &mut S,
+    buffer: &mut [u8],
+) -> Result<Input, ReadError>
+    requires { 0 < length buffer.old }
+    ensures later { S.faults source.old ≤ S.faults source.new }
+    ensures bounded { (piece : List ℕ) × Consumes (S.left source.old) (S.left source.new) piece × (length piece ≤ MAX_INPUT + 1) }
+    ensures read { IfOk result (λ input. IsRead (S.left source.old) (S.left source.new) input.bytes.items input.collection) }
+    ensures cause { IfErr result (λ error. HasReadCause error (S.left source.old) (S.faults source.old) (S.faults source.new)) }
+{
     let mut reading = Reading::start(alloc);
     'pieces: loop {
-        let count = read_piece(source, &mut buffer, reading.bytes.len())?;
+        let count = match read_piece(source, buffer, reading.bytes.len()) {
+            Ok(count) => count,
+            Err(error) => return Err(error),
+        };
         if count == 0 {
-            return reading.finish(alloc);
+            return match reading.finish(alloc) {
+                Ok(input) => Ok(input),
+                Err(error) => Err(error),
+            };
         }
-        reading = reading.take(alloc, &buffer[..count])?;
+        reading = match reading.take(alloc, &buffer[..count]) {
+            Ok(next) => next,
+            Err(error) => return Err(error),
+        };
     }
 }
 
@@ -117,26 +137,27 @@ impl Reading {
         ensures ended { IfErr result (λ error. EndsReading error (self.bytes.items ++ piece.now)) }
     {
         let Reading {
-            mut bytes,
+            bytes,
             progress,
             header,
         } = self;
         let from = bytes.len();
-        if bytes.extend_from_slice(piece).is_err() {
-            return Err(ReadError::Memory);
-        }
-        let header = match find_header(alloc, header, &bytes, from) {
+        let all = match extended(bytes, piece) {
+            Ok(all) => all,
+            Err(error) => return Err(error),
+        };
+        let header = match find_header(alloc, header, &all, from) {
             Ok(header) => header,
             Err(error) => return Err(error),
         };
         let Ok(progress) = progress.walk(piece) else {
             return Err(ReadError::Limit);
         };
-        if bytes.len() > MAX_INPUT {
+        if all.len() > MAX_INPUT {
             return Err(ReadError::Limit);
         }
         Ok(Reading {
-            bytes,
+            bytes: all,
             progress,
             header,
         })
@@ -160,6 +181,18 @@ impl Reading {
             Ok(collection) => Ok(Input { bytes, collection }),
             Err(error) => Err(error),
         }
+    }
+}
+
+// The bytes, and those of a piece behind them.
+fn extended(bytes: Vec<u8>, piece: &[u8]) -> Result<Vec<u8>, ReadError>
+    ensures all { IfOk result (λ all. all.items ≡ bytes.items ++ piece.now) }
+    ensures err { IfErr result (λ error. error ≡ ReadError.Memory) }
+{
+    let mut all = bytes;
+    match all.extend_from_slice(piece) {
+        Ok(()) => Ok(all),
+        Err(_) => Err(ReadError::Memory),
     }
 }
 
@@ -202,7 +235,11 @@ fn first_header(alloc: Global, bytes: &[u8], from: usize) -> Result<Option<Colle
 }
 
 // The collection of line 1, once the input has come to its end.
-fn last_header(alloc: Global, header: Option<Collection>, bytes: &[u8]) -> Result<Collection, ReadError>
+fn last_header(
+    alloc: Global,
+    header: Option<Collection>,
+    bytes: &[u8],
+) -> Result<Collection, ReadError>
     requires known { KnowsHeader bytes.now header }
     ensures ok { IfOk result (λ collection. header_of (first_line bytes.now) ≡ Some collection) }
     ensures in_range { IfOk result IsInRange }

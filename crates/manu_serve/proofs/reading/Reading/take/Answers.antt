@@ -1,11 +1,17 @@
-use Rattle.std.proofs.Common.{◌++◌}
+use Rattle.std.proofs.Common.{List, ℕ, ◌≡◌, ◌++◌, ◌∙◌, ◌<◌, length, vec_len, subst, arith, rules}
+use Rattle.input_lines.specs.declared.limits.TheConstants.{MAX_INPUT}
+use Rattle.manu_serve.specs.Readings.{KnowsHeader}
 use Rattle.manu_serve.proofs.Prefixes.{over_lines, over_bytes, limits_over}
 use Rattle.manu_serve.proofs.reading.Reading.take.Goals as goal
 
 pub returns-in_default-clause-ended : goal.returns-in_default-clause-ended
 returns-in_default-clause-ended c =
-    over_lines (c.args.self.bytes.items ++ c.args.piece.now) c.in-Ok.header c.in-Ok.ensures.known (limits_over c.args.self.bytes.items c.args.piece.now c.args.self.progress.lines c.args.self.progress.current c.requires.known.limits c.in_default.ensures.over)
+    let all : c.deref.result.now ≡ c.args.self.bytes.items ++ c.args.piece.now = c.deref.ensures.value ∙ c.in-Ok.ensures.all in
+    over_lines (c.args.self.bytes.items ++ c.args.piece.now) c.in-Ok-find_header.header (subst (λ (l : List ℕ). KnowsHeader l c.in-Ok-find_header.header) all c.in-Ok-find_header.ensures.known) (limits_over c.args.self.bytes.items c.args.piece.now c.args.self.progress.lines c.args.self.progress.current c.requires.known.limits c.in_default.ensures.over)
 
 pub returns-then-len-gt-MAX_INPUT-clause-ended : goal.returns-then-len-gt-MAX_INPUT-clause-ended
-returns-then-len-gt-MAX_INPUT-clause-ended c = let t = c.if-len-gt-MAX_INPUT.true in let k = c.in-Ok.ensures.known in
-    over_bytes (c.args.self.bytes.items ++ c.args.piece.now) c.in-Ok.header c.in-Ok.ensures.known ?
+returns-then-len-gt-MAX_INPUT-clause-ended c =
+    let all : c.deref.result.now ≡ c.args.self.bytes.items ++ c.args.piece.now = c.deref.ensures.value ∙ c.in-Ok.ensures.all in
+    let size : length c.in-Ok.all.items ≡ vec_len c.in-Ok.all = search rules in
+    let long : MAX_INPUT < length c.in-Ok.all.items = omega arith in
+    over_bytes (c.args.self.bytes.items ++ c.args.piece.now) c.in-Ok-find_header.header (subst (λ (l : List ℕ). KnowsHeader l c.in-Ok-find_header.header) all c.in-Ok-find_header.ensures.known) (subst (λ (l : List ℕ). MAX_INPUT < length l) c.in-Ok.ensures.all long)

@@ -1,0 +1,207 @@
+-- Answering line by line.
+use Rattle.std.proofs.Common.{◌≡◌, ℕ, zero, suc, Bool, true, false, ◌&&◌, if◌then◌else◌, codes, Option, None, option_map, option_and_then, Result, Ok, Err, ◌+◌, ◌*◌, ◌<◌, ◌≤◌, min, List, [], ◌∷◌, ◌++◌, map, length, refl, sym, ap, ◌∙◌, subst, arith, Some, add-zero, append-nil, append_assoc, length-append, ◌^◌, ◌-◌}
+use Rattle.std.specs.List.{AllByRecursion as Each, flat_map}
+use Rattle.hybrid_time.specs.Times.{of_moment}
+use Rattle.coarse_lists.specs.declared.collections.Collection.{Collection}
+use Rattle.answer_lines.specs.declared.reasons.Reason.{Reason}
+use Rattle.answer_lines.specs.declared.answers.Answer.{Answer}
+use Rattle.answer_lines.specs.declared.answers.Answer.TheVariants as answers
+use Rattle.answer_lines.specs.Lines.{text_of}
+use Rattle.request_lines.specs.Headers.{header_of}
+use Rattle.input_lines.specs.Lines.{lines_of, first_line, other_lines, behind_first}
+use Rattle.serde_json.specs.Data.{Data}
+use Rattle.request_lines.specs.declared.requests.Request.{Request}
+use Rattle.request_lines.specs.declared.requests.Ask.{Ask}
+use Rattle.request_lines.specs.Json.{value_of, integer_at, has_only}
+use Rattle.request_lines.specs.Headers.{header_members, creates, dimension_of, collection_of, collection_in}
+use Rattle.request_lines.specs.Requests.{request_of, and_then, json_in, object_in, operation_in, form_in, ask_in, request_in}
+use Rattle.log_model.proofs.LogLaws.{each-append, each_implied}
+use Rattle.legal_output.specs.Lines.{Asked, Bad, Finish, Line, Start, drawn}
+use Rattle.legal_output.specs.Printed.{all_drawn}
+use Rattle.legal_output.specs.Legal.{Numbered, IsLegal}
+use Rattle.legal_output.specs.Outputs.{asks_of, asked_of, start_of, printed, text_of_line, IsLegalOutput}
+use Rattle.legal_output.specs.Runs.{Plain, Serves, Run, begun}
+use Rattle.legal_output.proofs.Grown.{flat_map-push}
+use Rattle.legal_output.proofs.Stands.{run-push, at_start, ran, is_legal}
+use Rattle.manu_serve.specs.Answerings.{asked_in, IsLegalFrom, IsAnswered, Adds, IsPartly}
+
+-- a line that is no request draws nothing and changes nothing
+pub refused_serves : (start : Start) (plain : Plain) (reason : Reason) → plain.tick < plain.clock → Serves start plain (Bad reason) (answers.Refused reason) plain
+refused_serves start plain reason reached = record {
+  alone = tt;
+  later = omega arith;
+  rising = tt;
+  drawn_above = tt;
+  stamped_below = tt;
+  log = sym (append-nil plain.log);
+  mine = refl;
+  tick = omega arith;
+  met = λ met h. h;
+  told = λ channel. tt;
+  reached = reached;
+  kind = tt;
+  refusal = refl;
+  replied = tt;
+  content = tt;
+  level = tt;
+  counted = tt;
+}
+
+numbered-push : (n : ℕ) (lines : List Line) (line : Line) → Numbered n lines → line.number ≡ n + length lines → Numbered n (lines ++ line ∷ [])
+numbered-push n [] line h e = (e ∙ add-zero n, tt)
+numbered-push n (first ∷ lines) line h e = (h.0, numbered-push (n + 1) lines line h.1 (omega (arith, e)))
+
+map-push : (lines : List Line) (line : Line) → map (λ l. l.asked) (lines ++ line ∷ []) ≡ map (λ l. l.asked) lines ++ line.asked ∷ []
+map-push [] line = refl
+map-push (first ∷ lines) line = ap (λ l. first.asked ∷ l) (map-push lines line)
+
+length-map-asked : (lines : List Line) → length (map (λ l. l.asked) lines) ≡ length lines
+length-map-asked [] = refl
+length-map-asked (first ∷ lines) = ap suc (length-map-asked lines)
+
+drawn-push : (least : ℕ) (lines : List Line) (line : Line) → Each (λ n. least ≤ n) (all_drawn lines) → Each (λ n. least ≤ n) (drawn line.answer) → Each (λ n. least ≤ n) (all_drawn (lines ++ line ∷ []))
+drawn-push least lines line h k =
+    subst (Each (λ n. least ≤ n)) (sym (flat_map-push (λ l. drawn l.answer) lines line)) (each-append (λ n. least ≤ n) (all_drawn lines) (drawn line.answer) h k)
+
+pub answered_none : (start : Start) (least : ℕ) (output : List ℕ) → output ≡ text_of 1 answers.Created → IsAnswered start least [] output (begun start 1)
+answered_none start least output e = record {
+  lines = [];
+  asked = refl;
+  numbered = tt;
+  text = e ∙ sym (append-nil (text_of 1 answers.Created));
+  run = refl;
+  drawn_from = tt;
+}
+
+pub answered_more : (start : Start) (least number : ℕ) (asks : List Asked) (asked : Asked) (output text : List ℕ) (mid new : Plain)
+    → number ≡ 2 + length asks → IsAnswered start least asks output mid → Adds start least number asked mid new text
+    → IsAnswered start least (asks ++ asked ∷ []) (output ++ text) new
+answered_more start least number asks asked output text mid new count before more =
+    let line : Line = record { number = number; asked = asked; answer = more.answer } in
+    let size : length before.lines ≡ length asks = sym (length-map-asked before.lines) ∙ ap length before.asked in
+    record {
+      lines = before.lines ++ line ∷ [];
+      asked = map-push before.lines line ∙ ap (λ l. l ++ asked ∷ []) before.asked;
+      numbered = numbered-push 2 before.lines line before.numbered (count ∙ ap (λ n. 2 + n) (sym size));
+      text = ap (λ l. l ++ text) before.text ∙ ap (λ l. printed before.lines ++ l) more.printed_as
+          ∙ append_assoc (text_of 1 answers.Created) (flat_map text_of_line before.lines) (text_of number more.answer)
+          ∙ ap (λ l. text_of 1 answers.Created ++ l) (sym (flat_map-push text_of_line before.lines line));
+      run = run-push start (begun start 1) mid new before.lines line before.run more.serves;
+      drawn_from = drawn-push least before.lines line before.drawn_from more.drawn_from;
+    }
+
+-- one line more is answered
+pub partly_more : (start : Start) (least : ℕ) (all rest : List Asked) (asked : Asked) (number : ℕ) (output text : List ℕ) (mid new : Plain)
+    → IsPartly start least all (asked ∷ rest) number output mid → Adds start least number asked mid new text
+    → IsPartly start least all rest (number + 1) (output ++ text) new
+partly_more start least all rest asked number output text mid new before more = record {
+  done = before.done ++ asked ∷ [];
+  split = before.split ∙ sym (append_assoc before.done (asked ∷ []) rest);
+  count = omega (arith, before.count, length-append before.done (asked ∷ []));
+  answered = answered_more start least number before.done asked output text mid new before.count before.answered more;
+}
+
+pub partly_none : (start : Start) (least : ℕ) (all : List Asked) (output : List ℕ) (now : Plain) → output ≡ text_of 1 answers.Created → now ≡ begun start 1 → IsPartly start least all all 2 output now
+partly_none start least all output now e at_start = record {
+  done = [];
+  split = refl;
+  count = refl;
+  answered = subst (λ (p : Plain). IsAnswered start least [] output p) (sym at_start) (answered_none start least output e);
+}
+
+length_asked : (collection : Collection) (lines : List (List ℕ)) → length (asked_in collection lines) ≡ length lines
+length_asked collection [] = refl
+length_asked collection (line ∷ lines) = ap suc (length_asked collection lines)
+
+-- no more lines are answered than there are
+pub lines_few : (start : Start) (collection : Collection) (least : ℕ) (lines : List (List ℕ)) (rest : List Asked) (number : ℕ) (output : List ℕ) (now : Plain) → IsPartly start least (asked_in collection lines) rest number output now → number ≤ 2 + length lines
+lines_few start collection least lines rest number output now partly = omega (arith, partly.count, ap length partly.split, length-append partly.done rest, length_asked collection lines)
+
+-- the first of the lines that are left is answered
+pub partly_line : (collection : Collection) (least : ℕ) (all : List Asked) (lines more : List (List ℕ)) (text : List ℕ) (number : ℕ) (old new : List ℕ) (mid now : Plain)
+    → lines ≡ text ∷ more
+    → IsPartly (start_of collection) least all (asked_in collection lines) number old mid
+    → (line : List ℕ) × (new ≡ old ++ line) × Adds (start_of collection) least number (asked_of (request_of collection text)) mid now line
+    → IsPartly (start_of collection) least all (asked_in collection more) (number + 1) new now
+partly_line collection least all lines more text number old new mid now cut before step =
+    let here : IsPartly (start_of collection) least all (asked_of (request_of collection text) ∷ asked_in collection more) number old mid = subst (λ (ls : List (List ℕ)). IsPartly (start_of collection) least all (asked_in collection ls) number old mid) cut before in
+    subst (λ (o : List ℕ). IsPartly (start_of collection) least all (asked_in collection more) (number + 1) o now) (sym step.1)
+    (partly_more (start_of collection) least all (asked_in collection more) (asked_of (request_of collection text)) number old step.0 mid now here step.2)
+
+-- all lines and the end are answered
+pub legal_from : (collection : Collection) (least : ℕ) (input old new text : List ℕ) (number : ℕ) (mid now : Plain)
+    → header_of (first_line input) ≡ Some collection
+    → IsPartly (start_of collection) least (asked_in collection (other_lines input)) [] number old mid
+    → new ≡ old ++ text
+    → Adds (start_of collection) least number Finish mid now text
+    → IsLegalFrom least input new
+legal_from collection least input old new text number mid now header partly grown step =
+    let start : Start = start_of collection in
+    let all : asked_in collection (other_lines input) ≡ partly.done = partly.split ∙ append-nil partly.done in
+    let last : IsAnswered start least (partly.done ++ Finish ∷ []) (old ++ text) now = answered_more start least number partly.done Finish old text mid now partly.count partly.answered step in
+    record {
+      collection = collection;
+      header = header;
+      lines = last.lines;
+      text = grown ∙ last.text;
+      legal = is_legal start now (asks_of collection input) last.lines (ran start (begun start 1) now [] last.lines (at_start start 1 tt (omega arith)) last.run) last.numbered (last.asked ∙ ap (λ l. l ++ Finish ∷ []) (sym all));
+      drawn_from = last.drawn_from;
+    }
+
+pub legal_output : (least : ℕ) (input output : List ℕ) → IsLegalFrom least input output → IsLegalOutput input output
+legal_output least input output from = record { collection = from.collection; header = from.header; lines = from.lines; text = from.text; legal = from.legal }
+
+few_behind : (lines : List (List ℕ)) (n : ℕ) → length lines ≤ n → length (behind_first lines) ≤ n
+few_behind [] n h = h
+few_behind (line ∷ lines) n h = omega arith
+
+pub few_others : (input : List ℕ) (n : ℕ) → length (lines_of input) ≤ n → length (other_lines input) ≤ n
+few_others input n h = few_behind (lines_of input) n h
+
+-- moments
+pub of_moment-le : (a b : ℕ) → a ≤ b → of_moment a ≤ of_moment b
+of_moment-le a b h = omega arith
+
+pub drawn_later : (a b : ℕ) (ns : List ℕ) → a ≤ b → Each (λ n. of_moment b ≤ n) ns → Each (λ n. of_moment a ≤ n) ns
+drawn_later a b ns h = each_implied (λ n. of_moment b ≤ n) (λ n. of_moment a ≤ n) (λ n k. omega (arith, of_moment-le a b h, k)) ns
+
+-- ---- what a line that is read is known to be
+
+then_ok : {T U : Type 0} (r : Result T Reason) (next : T → Result U Reason) (P : U → Type 0) → ((x : T) (y : U) → next x ≡ Ok y → P y) → (y : U) → and_then r next ≡ Ok y → P y
+then_ok (Ok x) next P f y e = f x y e
+then_ok (Err reason) next P f y e = cc
+
+same_caller : (ask : Ask) (r : Request) → ◌≡◌ {A = Result Request Reason} (Ok (record { caller = 0; what = ask })) (Ok r) → r.caller ≡ 0
+same_caller ask r e = cc
+
+request_alone : (collection : Collection) (d : Data) (request : Request) → request_in collection d ≡ Ok request → request.caller ≡ 0
+request_alone collection d request =
+    then_ok (and_then (operation_in d) (form_in d)) (λ operation. and_then (ask_in collection d operation) (λ ask. Ok (record { caller = 0; what = ask }))) (λ r. r.caller ≡ 0)
+    (λ operation. then_ok (ask_in collection d operation) (λ ask. Ok (record { caller = 0; what = ask })) (λ r. r.caller ≡ 0) same_caller)
+    request
+
+object_alone : (collection : Collection) (d : Data) (request : Request) → and_then (object_in d) (request_in collection) ≡ Ok request → request.caller ≡ 0
+object_alone collection d request = then_ok (object_in d) (request_in collection) (λ r. r.caller ≡ 0) (request_alone collection) request
+
+pub caller_alone : (collection : Collection) (bytes : List ℕ) (request : Request) → request_of collection bytes ≡ Ok request → request.caller ≡ 0
+caller_alone collection bytes request = then_ok (json_in bytes) (λ d. and_then (object_in d) (request_in collection)) (λ r. r.caller ≡ 0) (object_alone collection) request
+
+-- the channels of a collection that is there
+abbrev channels_or : Option Collection → ℕ
+channels_or None = 1
+channels_or (Some collection) = collection.channels
+
+one_channel_of : (o : Option ℕ) (collection : Collection) → option_map collection_of o ≡ Some collection → collection.channels ≡ 1
+one_channel_of None collection e = cc
+one_channel_of (Some dim) collection e = sym (ap (λ o. channels_or o) e)
+
+one_channel_if : (b : Bool) (o : Option ℕ) (collection : Collection) → (if b then option_map collection_of o else None) ≡ Some collection → collection.channels ≡ 1
+one_channel_if true o collection e = one_channel_of o collection e
+one_channel_if false o collection e = cc
+
+one_channel_in : (o : Option Data) (collection : Collection) → option_and_then collection_in o ≡ Some collection → collection.channels ≡ 1
+one_channel_in None collection e = cc
+one_channel_in (Some d) collection e = one_channel_if (has_only header_members d && creates d) (option_and_then dimension_of (integer_at (codes "dim") d)) collection e
+
+pub one_channel : (bytes : List ℕ) (collection : Collection) → header_of bytes ≡ Some collection → collection.channels ≡ 1
+one_channel bytes collection e = one_channel_in (value_of bytes) collection e

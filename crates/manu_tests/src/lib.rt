@@ -1,0 +1,10 @@
+//! Whole runs of the top call over memory, each with its input and its output written out. Nothing
+//! stands on this crate.
+#![tactic(auto)]
+
+#[cfg(test)]
+mod cases;
+#[cfg(test)]
+mod endings;
+#[cfg(test)]
+mod runs;
