@@ -43,10 +43,10 @@ use Rattle.plain_run.specs.Accounts.{alone}
 abbrev stamp : ℕ → Timestamp
 stamp n = record { 0 = n }
 
-lt_later : (a b c : ℕ) → a < b → b ≤ c → a < c
+pub lt_later : (a b c : ℕ) → a < b → b ≤ c → a < c
 lt_later a b c low high = omega arith
 
-le_later : (a b c : ℕ) → a < b → b ≤ c → a ≤ c
+pub le_later : (a b c : ℕ) → a < b → b ≤ c → a ≤ c
 le_later a b c low high = omega arith
 
 le_self : (n : ℕ) → n ≤ n
@@ -223,7 +223,7 @@ less_of a b = omega arith
 zero_least : (n : ℕ) → 0 ≤ n
 zero_least n = omega arith
 
-le_le : (a b c : ℕ) → a ≤ b → b ≤ c → a ≤ c
+pub le_le : (a b c : ℕ) → a ≤ b → b ≤ c → a ≤ c
 le_le a b c low high = omega arith
 
 pub record IsSnapshot (tick guarantee now ts clock : ℕ) : Type 0 where

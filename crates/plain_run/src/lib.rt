@@ -4,6 +4,7 @@
 #![tactic(auto)]
 
 mod kept;
+mod nearest;
 mod runs;
 
 pub use crate::runs::PlainRun;

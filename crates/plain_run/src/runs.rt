@@ -7,7 +7,7 @@ ghost use Rattle.hybrid_time.specs.Times.{of_moment};
 ghost use Rattle.log_model.specs.Scans.{FitsDimension, HasDimension};
 ghost use Rattle.coarse_lists.specs.declared.collections.Collection.{Collection};
 ghost use Rattle.request_lines.specs.declared.requests.Ask.TheVariants as asks;
-ghost use Rattle.request_lines.specs.Requests.{Fits};
+ghost use Rattle.request_lines.specs.Requests.{Fits, FitsQuery};
 ghost use Rattle.answer_lines.specs.declared.answers.Answer.TheVariants as answers;
 ghost use Rattle.legal_output.specs.Lines.{Start, Given, Finish, drawn, IsReplyTo};
 ghost use Rattle.legal_output.specs.Legal.{told_of};
@@ -91,12 +91,12 @@ impl PlainRun {
         ensures serves { (start : Start) → Serves start (plain_of self.old) Finish (answers.End result) (plain_of self.new) }
         ensures moment { of_moment moment ≤ result.ts.0 }
     {
-        let now = self.lifted(moment);
+        let last = self.lifted(moment);
         let live = self.kept.live();
-        self.clock = now + 1;
-        self.tick = now;
+        self.clock = last + 1;
+        self.tick = last;
         MeetReply {
-            ts: Timestamp(now),
+            ts: Timestamp(last),
             live,
         }
     }
@@ -142,7 +142,7 @@ impl PlainRun {
         level: Level,
     ) -> Result<Answer, Memory>
         requires run { IsRunOf collection.now self.old }
-        requires fits { length query.now.vector ≡ collection.now.dim }
+        requires fits { FitsQuery collection.now.dim query.now }
         requires later { (plain_of self.old).clock ≤ now }
         requires room { now + 3 < 2 ^ 64 }
         ensures serves { IfOk result (λ answer. (wait : Bool) → Serves (start_of collection.now) (plain_of self.old) (alone (asks.Search query.now level wait)) answer (plain_of self.new)) }

@@ -7,6 +7,7 @@ use std::marker::Model;
 use turn_lock::Pass;
 
 /// What one thread takes turns with. It shows its table, its number, its allowance of numbers to draw, those that it drew, the seats that were joined to it, and what it has seen of each journal.
+#[derive(Drop)]
 pub struct Seat<V: Journalled> {
     pub(crate) pass: Pass<V, Know<V::Note, V::Base>>,
     pub(crate) number: u64,

@@ -5,7 +5,5 @@ use Rattle.log_model.proofs.LogLaws.{rows_of-after}
 use Rattle.log_model.proofs.Reached.{entries-empty}
 use Rattle.plain_run.proofs.kept.Kept.new.Goals as goal
 
-pub invariant_of-result : goal.invariant_of-result
-invariant_of-result c = record {
-  same = ap (λ log. fin.entries (rows_of log)) c.new.ensures.items ∙ ap fin.entries (rows_of-after _) ∙ entries-empty ∙ sym c.new-2.ensures.empty;
-}
+pub invariant_of-result-clause-same : goal.invariant_of-result-clause-same
+invariant_of-result-clause-same c = ap (λ log. fin.entries (rows_of log)) c.new.ensures.items ∙ ap fin.entries (rows_of-after _) ∙ entries-empty ∙ sym c.new-2.ensures.empty

@@ -1,4 +1,5 @@
 use Rattle.std.proofs.Common.{◌≤◌, ◌<◌, subst, sym, ◌∙◌, arith}
+use Rattle.log_model.specs.Scans.{HasDimension}
 use Rattle.legal_output.specs.Outputs.{start_of}
 use Rattle.plain_run.specs.Accounts.{plain_of}
 use Rattle.plain_run.proofs.Served.{IsSnapshot, snapshot_facts, guarantee_most, served_search}
@@ -20,3 +21,6 @@ returns-clause-serves c = λ wait.
     served_search (start_of c.args.collection.now) (plain_of c.args.self.now) c.args.now c.guarantee-least.result.0 c.snapshot-ts.result.0 c.snapshot-ts.result.1
     c.args.query.now c.args.level wait c.of.result c.args.self.now.reached c.requires.later some c.guarantee-least.ensures
     taken.guaranteed taken.known taken.drawn taken.within (c.of.ensures ∙ c.in_ok-hits.ensures)
+
+pub scan-requires-clause-fits : goal.scan-requires-clause-fits
+scan-requires-clause-fits c = subst (λ dim. HasDimension dim c.args.self.now.kept.log.items) (sym c.requires.fits.vector) c.requires.run.fits
