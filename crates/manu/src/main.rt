@@ -63,7 +63,16 @@ fn run(rt: &HostRuntime) -> Result<(), Fault> {
     let mut input = StandardInput::new(rt.stdin());
     let mut output = StandardOutput::new(rt.stdout());
     let clock = SystemClock::new(rt);
-    let Ended { status, keeper: _ } = serve(rt, alloc, &words, &mut input, &mut output, keeper, &clock, &OpenGate);
+    let Ended { status, keeper: _ } = serve(
+        rt,
+        alloc,
+        &words,
+        &mut input,
+        &mut output,
+        keeper,
+        &clock,
+        &OpenGate,
+    );
     match status {
         Status::Done => Ok(()),
         Status::BadHeader => Err(Fault::BadHeader),

@@ -7,7 +7,9 @@ use std::cell::Cell;
 use std::test::Fail;
 
 const CREATE: &str = "{\"op\":\"create\",\"dim\":8}";
+
 const INSERT: &str = "{\"op\":\"insert\",\"key\":1,\"vector\":\"0f\"}";
+
 const SEARCH: &str = "{\"op\":\"search\",\"vector\":\"0f\",\"k\":1}";
 
 #[test]
@@ -16,7 +18,13 @@ fn nothing_is_written_where_the_run_does_not_come_to_answers(rt: HostRuntime) ->
     let whole = joined(alloc, &[CREATE, INSERT])?;
     let still: &[&str] = &["run", "--still"];
     let cases = [
-        (still, b"".as_slice(), [].as_slice(), [].as_slice(), Status::BadHeader),
+        (
+            still,
+            b"".as_slice(),
+            [].as_slice(),
+            [].as_slice(),
+            Status::BadHeader,
+        ),
         (still, whole.as_slice(), &[1], &[], Status::ReadFault),
         (still, whole.as_slice(), &[], &[1], Status::WriteFault),
         (&["fly"], whole.as_slice(), &[], &[], Status::Usage),
@@ -54,6 +62,7 @@ fn a_line_that_is_too_long_passes_the_limit(rt: HostRuntime) -> Result<(), Fail>
 }
 
 /// Tells 10,000 times the number of the call.
+#[derive(Drop)]
 struct Steps {
     calls: Cell<u64>,
 }
@@ -79,20 +88,32 @@ fn each_request_reads_the_moment_anew(rt: HostRuntime) -> Result<(), Fail> {
         failing_writes: &[],
     };
     let (_, output) = run(alloc, &given, &FixedMoments(10_000))?;
-    let wanted = joined(alloc, &[
-        "{\"answer\":\"created\",\"line\":1}",
-        "{\"answer\":\"ok\",\"line\":2,\"ts\":2621440000}",
-        "{\"answer\":\"hits\",\"guarantee\":1310720001,\"hits\":[[0,1]],\"line\":3,\"now\":2621440001,\"ts\":2621440002}",
-        "{\"answer\":\"end\",\"live\":1,\"ts\":2621440003}",
-    ])?;
+    let wanted = joined(
+        alloc,
+        &[
+            "{\"answer\":\"created\",\"line\":1}",
+            "{\"answer\":\"ok\",\"line\":2,\"ts\":2621440000}",
+            "{\"answer\":\"hits\",\"guarantee\":1310720001,\"hits\":[[0,1]],\"line\":3,\"now\":2621440001,\"ts\":2621440002}",
+            "{\"answer\":\"end\",\"live\":1,\"ts\":2621440003}",
+        ],
+    )?;
     assert_eq!(rt; output.as_slice(), wanted.as_slice());
-    let (_, output) = run(alloc, &given, &Steps { calls: Cell::new(0) })?;
-    let wanted = joined(alloc, &[
-        "{\"answer\":\"created\",\"line\":1}",
-        "{\"answer\":\"ok\",\"line\":2,\"ts\":2621440000}",
-        "{\"answer\":\"hits\",\"guarantee\":3932160000,\"hits\":[[0,1]],\"line\":3,\"now\":5242880000,\"ts\":5242880001}",
-        "{\"answer\":\"end\",\"live\":1,\"ts\":7864320000}",
-    ])?;
+    let (_, output) = run(
+        alloc,
+        &given,
+        &Steps {
+            calls: Cell::new(0),
+        },
+    )?;
+    let wanted = joined(
+        alloc,
+        &[
+            "{\"answer\":\"created\",\"line\":1}",
+            "{\"answer\":\"ok\",\"line\":2,\"ts\":2621440000}",
+            "{\"answer\":\"hits\",\"guarantee\":3932160000,\"hits\":[[0,1]],\"line\":3,\"now\":5242880000,\"ts\":5242880001}",
+            "{\"answer\":\"end\",\"live\":1,\"ts\":7864320000}",
+        ],
+    )?;
     assert_eq!(rt; output.as_slice(), wanted.as_slice());
     Ok(())
 }

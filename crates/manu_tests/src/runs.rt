@@ -7,6 +7,7 @@ use std::alloc::{AllocError, Global};
 use std::test::Fail;
 
 /// What a run is given.
+#[derive(Drop)]
 pub struct Given<'a> {
     pub words: &'a [&'a str],
     pub input: &'a [u8],
@@ -25,7 +26,11 @@ pub fn joined(alloc: Global, lines: &[&str]) -> Result<Vec<u8>, AllocError> {
 }
 
 /// The status of a run, and what it wrote.
-pub fn run<M: Moments>(alloc: Global, given: &Given, moments: &M) -> Result<(Status, Vec<u8>), Fail> {
+pub fn run<M: Moments>(
+    alloc: Global,
+    given: &Given,
+    moments: &M,
+) -> Result<(Status, Vec<u8>), Fail> {
     let mut words = Vec::new(alloc);
     for word in given.words {
         words.push(Text::copied(alloc, *word)?)?;
@@ -34,7 +39,16 @@ pub fn run<M: Moments>(alloc: Global, given: &Given, moments: &M) -> Result<(Sta
     let mut source = BytesSource::new(input, given.failing_reads.to_vec(alloc)?);
     let mut sink = BytesSink::new(alloc, given.failing_writes.to_vec(alloc)?);
     let keeper = MapKeeper::new(alloc, Vec::new(alloc));
-    let Ended { status, keeper: _ } = serve(&(), alloc, &words, &mut source, &mut sink, keeper, moments, &OpenGate);
+    let Ended { status, keeper: _ } = serve(
+        &(),
+        alloc,
+        &words,
+        &mut source,
+        &mut sink,
+        keeper,
+        moments,
+        &OpenGate,
+    );
     let output = sink.as_slice().to_vec(alloc)?;
     Ok((status, output))
 }

@@ -30,7 +30,7 @@ returns g c =
     let least : ℕ = of_moment (least_of c.args.pace (g.M.Moments.least c.args.moments.now)) in
     let others : lines_of c.behind_header-rest.result.now ≡ other_lines c.args.input.now.bytes.items = c.behind_header-rest.ensures ∙ ap other_lines c.deref.ensures.value in
     let partly : IsPartly (start_of collection) least (asked_in collection (other_lines c.args.input.now.bytes.items)) [] c.in_ok-number.number c.answer_lines.new.output.items (plain_of c.answer_lines.new.run) =
-        subst (λ (ls : List (List ℕ)). IsPartly (start_of collection) least (asked_in collection ls) [] c.in_ok-number.number c.answer_lines.new.output.items (plain_of c.answer_lines.new.run)) others c.in_ok-number.ensures.answered in
+    subst (λ (ls : List (List ℕ)). IsPartly (start_of collection) least (asked_in collection ls) [] c.in_ok-number.number c.answer_lines.new.output.items (plain_of c.answer_lines.new.run)) others c.in_ok-number.ensures.answered in
     let from : least ≤ c.end-reply.result.ts.0 = le_trans (of_moment-le _ _ c.moment.ensures) c.end-reply.ensures.moment in
     legal_from collection least c.args.input.now.bytes.items c.answer_lines.new.output.items c.append_line.new.output.items (text_of c.in_ok-number.number (answers.End c.end-reply.result)) c.in_ok-number.number (plain_of c.answer_lines.new.run) (plain_of c.end-reply.new.self) c.requires.header partly c.in_ok-append_line.ensures (record {
       answer = answers.End c.end-reply.result;
