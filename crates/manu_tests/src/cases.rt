@@ -6,59 +6,54 @@ use std::alloc::Global;
 use std::process::Abort;
 use std::test::Fail;
 
-struct Case {
-    input: &'static [&'static str],
-    output: &'static [&'static str],
-}
-
 const CREATE: &str = "{\"op\":\"create\",\"dim\":8}";
 
 const CREATED: &str = "{\"answer\":\"created\",\"line\":1}";
 
 const INSERT: &str = "{\"op\":\"insert\",\"key\":1,\"vector\":\"0f\"}";
 
-fn check(rt: &impl Abort, alloc: Global, cases: &[Case]) -> Result<(), Fail> {
-    for case in cases {
-        let (status, output) = still(alloc, case.input)?;
-        assert_eq!(rt; status, Status::Done);
-        let wanted = joined(alloc, case.output)?;
-        assert_eq!(rt; output.as_slice(), wanted.as_slice());
-    }
+const STRONG: &str = "{\"op\":\"search\",\"vector\":\"0f\",\"k\":1,\"level\":\"Strong\"}";
+
+fn check(rt: &impl Abort, alloc: Global, input: &[&str], output: &[&str]) -> Result<(), Fail> {
+    let (status, written) = still(alloc, input)?;
+    assert_eq!(rt; status, Status::Done);
+    let wanted = joined(alloc, output)?;
+    assert_eq!(rt; written.as_slice(), wanted.as_slice());
     Ok(())
 }
 
 #[test]
 fn a_write_is_found_by_a_strong_search(rt: HostRuntime) -> Result<(), Fail> {
-    let strong = "{\"op\":\"search\",\"vector\":\"0f\",\"k\":1,\"level\":\"Strong\"}";
     check(
         &rt,
         rt.alloc(),
+        &[CREATE],
+        &[CREATED, "{\"answer\":\"end\",\"live\":0,\"ts\":1}"],
+    )?;
+    check(
+        &rt,
+        rt.alloc(),
+        &[CREATE, INSERT, STRONG],
         &[
-            Case {
-                input: &[CREATE],
-                output: &[CREATED, "{\"answer\":\"end\",\"live\":0,\"ts\":1}"],
-            },
-            Case {
-                input: &[CREATE, INSERT, strong],
-                output: &[
-                    CREATED,
-                    "{\"answer\":\"ok\",\"line\":2,\"ts\":1}",
-                    "{\"answer\":\"hits\",\"guarantee\":2,\"hits\":[[0,1]],\"line\":3,\"now\":2,\"ts\":3}",
-                    "{\"answer\":\"end\",\"live\":1,\"ts\":4}",
-                ],
-            },
-            Case {
-                input: &[CREATE, INSERT, "{\"op\":\"search\",\"k\":1}", strong],
-                output: &[
-                    CREATED,
-                    "{\"answer\":\"ok\",\"line\":2,\"ts\":1}",
-                    "{\"answer\":\"refused\",\"line\":3,\"reason\":\"NoVector\"}",
-                    "{\"answer\":\"hits\",\"guarantee\":2,\"hits\":[[0,1]],\"line\":4,\"now\":2,\"ts\":3}",
-                    "{\"answer\":\"end\",\"live\":1,\"ts\":4}",
-                ],
-            },
+            CREATED,
+            "{\"answer\":\"ok\",\"line\":2,\"ts\":1}",
+            "{\"answer\":\"hits\",\"guarantee\":2,\"hits\":[[0,1]],\"line\":3,\"now\":2,\"ts\":3}",
+            "{\"answer\":\"end\",\"live\":1,\"ts\":4}",
         ],
-    )
+    )?;
+    check(
+        &rt,
+        rt.alloc(),
+        &[CREATE, INSERT, "{\"op\":\"search\",\"k\":1}", STRONG],
+        &[
+            CREATED,
+            "{\"answer\":\"ok\",\"line\":2,\"ts\":1}",
+            "{\"answer\":\"refused\",\"line\":3,\"reason\":\"NoVector\"}",
+            "{\"answer\":\"hits\",\"guarantee\":2,\"hits\":[[0,1]],\"line\":4,\"now\":2,\"ts\":3}",
+            "{\"answer\":\"end\",\"live\":1,\"ts\":4}",
+        ],
+    )?;
+    Ok(())
 }
 
 #[test]
@@ -66,16 +61,15 @@ fn a_live_key_is_not_inserted_again(rt: HostRuntime) -> Result<(), Fail> {
     check(
         &rt,
         rt.alloc(),
-        &[Case {
-            input: &[CREATE, INSERT, INSERT],
-            output: &[
-                CREATED,
-                "{\"answer\":\"ok\",\"line\":2,\"ts\":1}",
-                "{\"answer\":\"exists\",\"line\":3,\"ts\":2}",
-                "{\"answer\":\"end\",\"live\":1,\"ts\":3}",
-            ],
-        }],
-    )
+        &[CREATE, INSERT, INSERT],
+        &[
+            CREATED,
+            "{\"answer\":\"ok\",\"line\":2,\"ts\":1}",
+            "{\"answer\":\"exists\",\"line\":3,\"ts\":2}",
+            "{\"answer\":\"end\",\"live\":1,\"ts\":3}",
+        ],
+    )?;
+    Ok(())
 }
 
 #[test]
@@ -84,80 +78,81 @@ fn a_snapshot_is_as_old_as_its_level_allows(rt: HostRuntime) -> Result<(), Fail>
         &rt,
         rt.alloc(),
         &[
-            Case {
-                input: &[
-                    CREATE,
-                    INSERT,
-                    "{\"op\":\"search\",\"vector\":\"0f\",\"k\":1,\"level\":\"Eventually\"}",
-                ],
-                output: &[
-                    CREATED,
-                    "{\"answer\":\"ok\",\"line\":2,\"ts\":1}",
-                    "{\"answer\":\"hits\",\"guarantee\":0,\"hits\":[],\"line\":3,\"now\":2,\"ts\":0}",
-                    "{\"answer\":\"end\",\"live\":1,\"ts\":3}",
-                ],
-            },
-            Case {
-                input: &[
-                    CREATE,
-                    INSERT,
-                    "{\"op\":\"tick\"}",
-                    "{\"op\":\"search\",\"vector\":\"0f\",\"k\":1,\"level\":\"Session\"}",
-                ],
-                output: &[
-                    CREATED,
-                    "{\"answer\":\"ok\",\"line\":2,\"ts\":1}",
-                    "{\"answer\":\"ticked\",\"line\":3,\"ticks\":[2]}",
-                    "{\"answer\":\"hits\",\"guarantee\":1,\"hits\":[[0,1]],\"line\":4,\"now\":3,\"ts\":2}",
-                    "{\"answer\":\"end\",\"live\":1,\"ts\":4}",
-                ],
-            },
+            CREATE,
+            INSERT,
+            "{\"op\":\"search\",\"vector\":\"0f\",\"k\":1,\"level\":\"Eventually\"}",
         ],
-    )
-}
-
-#[test]
-fn a_tie_goes_to_the_smaller_key_and_deleted_rows_are_not_found(
-    rt: HostRuntime,
-) -> Result<(), Fail> {
+        &[
+            CREATED,
+            "{\"answer\":\"ok\",\"line\":2,\"ts\":1}",
+            "{\"answer\":\"hits\",\"guarantee\":0,\"hits\":[],\"line\":3,\"now\":2,\"ts\":0}",
+            "{\"answer\":\"end\",\"live\":1,\"ts\":3}",
+        ],
+    )?;
     check(
         &rt,
         rt.alloc(),
         &[
-            Case {
-                input: &[
-                    CREATE,
-                    "{\"op\":\"insert\",\"key\":9,\"vector\":\"01\"}",
-                    "{\"op\":\"insert\",\"key\":3,\"vector\":\"80\"}",
-                    "{\"op\":\"search\",\"vector\":\"00\",\"k\":1,\"level\":\"Strong\"}",
-                ],
-                output: &[
-                    CREATED,
-                    "{\"answer\":\"ok\",\"line\":2,\"ts\":1}",
-                    "{\"answer\":\"ok\",\"line\":3,\"ts\":2}",
-                    "{\"answer\":\"hits\",\"guarantee\":3,\"hits\":[[1,3]],\"line\":4,\"now\":3,\"ts\":4}",
-                    "{\"answer\":\"end\",\"live\":2,\"ts\":5}",
-                ],
-            },
-            Case {
-                input: &[
-                    CREATE,
-                    "{\"op\":\"upsert\",\"key\":1,\"vector\":\"00\"}",
-                    "{\"op\":\"upsert\",\"key\":1,\"vector\":\"ff\"}",
-                    "{\"op\":\"delete\",\"key\":2}",
-                    "{\"op\":\"delete\",\"key\":1}",
-                    "{\"op\":\"search\",\"vector\":\"00\",\"k\":1,\"level\":\"Strong\"}",
-                ],
-                output: &[
-                    CREATED,
-                    "{\"answer\":\"ok\",\"line\":2,\"ts\":1,\"was\":false}",
-                    "{\"answer\":\"ok\",\"line\":3,\"ts\":2,\"was\":true}",
-                    "{\"answer\":\"ok\",\"line\":4,\"ts\":3,\"was\":false}",
-                    "{\"answer\":\"ok\",\"line\":5,\"ts\":4,\"was\":true}",
-                    "{\"answer\":\"hits\",\"guarantee\":5,\"hits\":[],\"line\":6,\"now\":5,\"ts\":6}",
-                    "{\"answer\":\"end\",\"live\":0,\"ts\":7}",
-                ],
-            },
+            CREATE,
+            INSERT,
+            "{\"op\":\"tick\"}",
+            "{\"op\":\"search\",\"vector\":\"0f\",\"k\":1,\"level\":\"Session\"}",
         ],
-    )
+        &[
+            CREATED,
+            "{\"answer\":\"ok\",\"line\":2,\"ts\":1}",
+            "{\"answer\":\"ticked\",\"line\":3,\"ticks\":[2]}",
+            "{\"answer\":\"hits\",\"guarantee\":1,\"hits\":[[0,1]],\"line\":4,\"now\":3,\"ts\":2}",
+            "{\"answer\":\"end\",\"live\":1,\"ts\":4}",
+        ],
+    )?;
+    Ok(())
+}
+
+#[test]
+fn a_tie_goes_to_the_smaller_key(rt: HostRuntime) -> Result<(), Fail> {
+    check(
+        &rt,
+        rt.alloc(),
+        &[
+            CREATE,
+            "{\"op\":\"insert\",\"key\":9,\"vector\":\"01\"}",
+            "{\"op\":\"insert\",\"key\":3,\"vector\":\"80\"}",
+            "{\"op\":\"search\",\"vector\":\"00\",\"k\":1,\"level\":\"Strong\"}",
+        ],
+        &[
+            CREATED,
+            "{\"answer\":\"ok\",\"line\":2,\"ts\":1}",
+            "{\"answer\":\"ok\",\"line\":3,\"ts\":2}",
+            "{\"answer\":\"hits\",\"guarantee\":3,\"hits\":[[1,3]],\"line\":4,\"now\":3,\"ts\":4}",
+            "{\"answer\":\"end\",\"live\":2,\"ts\":5}",
+        ],
+    )?;
+    Ok(())
+}
+
+#[test]
+fn a_deleted_row_is_not_found_and_does_not_count(rt: HostRuntime) -> Result<(), Fail> {
+    check(
+        &rt,
+        rt.alloc(),
+        &[
+            CREATE,
+            "{\"op\":\"upsert\",\"key\":1,\"vector\":\"00\"}",
+            "{\"op\":\"upsert\",\"key\":1,\"vector\":\"ff\"}",
+            "{\"op\":\"delete\",\"key\":2}",
+            "{\"op\":\"delete\",\"key\":1}",
+            "{\"op\":\"search\",\"vector\":\"00\",\"k\":1,\"level\":\"Strong\"}",
+        ],
+        &[
+            CREATED,
+            "{\"answer\":\"ok\",\"line\":2,\"ts\":1,\"was\":false}",
+            "{\"answer\":\"ok\",\"line\":3,\"ts\":2,\"was\":true}",
+            "{\"answer\":\"ok\",\"line\":4,\"ts\":3,\"was\":false}",
+            "{\"answer\":\"ok\",\"line\":5,\"ts\":4,\"was\":true}",
+            "{\"answer\":\"hits\",\"guarantee\":5,\"hits\":[],\"line\":6,\"now\":5,\"ts\":6}",
+            "{\"answer\":\"end\",\"live\":0,\"ts\":7}",
+        ],
+    )?;
+    Ok(())
 }
