@@ -37,6 +37,9 @@ low_digit b h = grind (arith, nat_tests)
 digit_below_ten : (b : ℕ) → is_ascii_digit b ≡ true → digit_value b < 10
 digit_below_ten b h = grind (arith, nat_tests)
 
+pub digit_first : (c : ℕ) → digit_value c < 10 → is_ascii_digit c ≡ true
+digit_first c h = grind (arith, nat_tests)
+
 one_more : (n : ℕ) → suc n ≡ 1 + n
 one_more n = omega arith
 
@@ -67,10 +70,10 @@ numeral_front z h = (omega (arith, length-prefix_len is_ascii_digit z), digits_f
 is_minus : (b : ℕ) → (b == 45) ≡ true → b < 128
 is_minus b h = grind (arith, nat_tests)
 
-not_minus : (b : ℕ) → is_ascii_digit b ≡ true → (b == 45) ≡ false
+pub not_minus : (b : ℕ) → is_ascii_digit b ≡ true → (b == 45) ≡ false
 not_minus b h = grind (arith, nat_tests)
 
-not_plus : (b : ℕ) → is_ascii_digit b ≡ true → (b == 43) ≡ false
+pub not_plus : (b : ℕ) → is_ascii_digit b ≡ true → (b == 43) ≡ false
 not_plus b h = grind (arith, nat_tests)
 
 signed_numeral : (b : ℕ) (ds : List ℕ) → (b == 45) ≡ true → IsNumeral 10 ds → IsNumeral 10 (without_leading_sign (b ∷ ds))

@@ -1,6 +1,10 @@
+mod AgainLaws
 mod EscapeLaws
+mod GoodTokens
 mod KindLaws
 mod Lexing
+mod Pieces
+mod RoundTrip
 mod Rules
 mod SignLaws
 mod Turns

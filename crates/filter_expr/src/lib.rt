@@ -1,10 +1,10 @@
 //! The filter language: a text becomes a filter of a schema's columns, and a filter becomes a text.
 //!
-//! The layer above relies on `parse` being exact: the filter that the grammar gives, or the first
-//! place where the text leaves the language.
+//! The layer above relies on `parse` being exact, so that it gives the filter that the grammar gives
+//! or the first place where the text leaves the language, and on `print` being its inverse.
 #![tactic(auto)]
 
-ghost use Rattle.std.specs.Prelude.{◌≡◌, ◌⊎◌, Ok, Err, IfOk, IfErr, IsTrue};
+ghost use Rattle.std.specs.Prelude.{◌≡◌, ◌⊎◌, ℕ, List, Ok, Err, IfOk, IfErr, IsTrue};
 ghost use Rattle.row_types.specs.Schemas.{fits};
 ghost use Rattle.filter_expr.specs.Grammar.{filter_of};
 ghost use Rattle.filter_expr.specs.Printing.{text_of};
@@ -60,8 +60,17 @@ fn read(alloc: Global, text: &Text, schema: &Schema) -> Result<Filter, FilterErr
     }
 }
 
-/// The text of a filter, with brackets only where the grammar needs them.
+/// The text of a filter, with brackets only where the grammar needs them. What some text was parsed
+/// as, the printed text is parsed as again.
+#[tactic(auto, using(crate::proofs::RoundTrip::read_again))]
 pub fn print(alloc: Global, filter: &Filter, schema: &Schema) -> Result<Text, Memory>
+    ensures text { IfOk result (λ text. text ≡ text_of schema.now.columns filter.now) }
+    ensures again { IfOk result (λ text. (source : List ℕ) → filter_of schema.now.columns source ≡ Ok filter.now → filter_of schema.now.columns text ≡ Ok filter.now) }
+{
+    write(alloc, filter, schema)
+}
+
+fn write(alloc: Global, filter: &Filter, schema: &Schema) -> Result<Text, Memory>
     ensures { IfOk result (λ text. text ≡ text_of schema.now.columns filter.now) }
 {
     let mut out = String::new(alloc);

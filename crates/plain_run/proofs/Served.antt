@@ -40,7 +40,7 @@ use Rattle.legal_output.specs.Legal.{told_of}
 use Rattle.legal_output.specs.Runs.{Plain, Serves}
 use Rattle.plain_run.specs.Accounts.{alone}
 
-abbrev stamp : ℕ → Timestamp
+abbrev pub stamp : ℕ → Timestamp
 stamp n = record { 0 = n }
 
 pub lt_later : (a b c : ℕ) → a < b → b ≤ c → a < c

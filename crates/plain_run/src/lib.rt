@@ -6,5 +6,7 @@
 mod kept;
 mod nearest;
 mod runs;
+#[cfg(test)]
+mod tests;
 
 pub use crate::runs::PlainRun;

@@ -1,6 +1,7 @@
 use super::super::*;
 use hybrid_time::Timestamp;
 use row_types::Key;
+use std::alloc::Global;
 use std::test::*;
 
 /// Segment 0 of dimension 8, one row at position 0 with timestamp 1, key 1 and vector 0f.
@@ -45,6 +46,16 @@ const TWO: [u8; 78] = [
     0x0f, 0x0e, // the vectors
 ];
 
+fn written_again(alloc: Global, bytes: &[u8]) -> Option<Vec<u8>> {
+    match read_insert(alloc, bytes) {
+        Ok(log) => match write_insert(alloc, &log) {
+            Ok(bytes) => Some(bytes),
+            Err(_) => None,
+        },
+        Err(_) => None,
+    }
+}
+
 #[test]
 fn an_insert_log_is_read_and_written_again(rt: HostRuntime) -> Result<(), Fail> {
     let alloc = rt.alloc();
@@ -57,7 +68,7 @@ fn an_insert_log_is_read_and_written_again(rt: HostRuntime) -> Result<(), Fail> 
     assert_eq!(rt; log.stamps.as_slice(), [Timestamp(1)].as_slice());
     assert_eq!(rt; log.keys.as_slice(), [Key(1)].as_slice());
     assert_eq!(rt; log.columns.as_slice().len(), 0);
-    let bytes = write_insert(alloc, &log).ok().ok_or("memory")?;
+    let bytes = written_again(alloc, &BYTES).ok_or("memory")?;
     assert_eq!(rt; bytes.as_slice(), BYTES.as_slice());
     Ok(())
 }
@@ -79,7 +90,7 @@ fn columns_are_read_and_written_again(rt: HostRuntime) -> Result<(), Fail> {
             }
         }
     }
-    let bytes = write_insert(alloc, &log).ok().ok_or("memory")?;
+    let bytes = written_again(alloc, &COLUMNS).ok_or("memory")?;
     assert_eq!(rt; bytes.as_slice(), COLUMNS.as_slice());
     Ok(())
 }
