@@ -13,7 +13,6 @@ use coarse_lists::Collection;
 use input_lines::{MAX_INPUT, MAX_LINE, Progress, find_end};
 use manu_edge::{Failed, Source};
 use request_lines::{HeaderError, read_header};
-use row_types::Memory;
 use std::alloc::Global;
 
 /// Bytes that are asked of a source at once.
@@ -30,12 +29,6 @@ pub enum ReadError {
     Limit,
     /// There was no memory to keep what was read.
     Memory,
-}
-
-impl From<Memory> for ReadError {
-    fn from(_memory: Memory) -> ReadError {
-        ReadError::Memory
-    }
 }
 
 /// An input that was read to its end, and the collection that its line 1 makes.
