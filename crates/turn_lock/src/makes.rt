@@ -77,6 +77,7 @@ impl<S, C, K, P: Protocol<S, C, K>> TurnLock<S, C, K, P> {
         requires rule { P.holds words.now (all_home values.items) (P.first about.now ∷ []) }
         ensures lock { IfOk result (λ made. (slot_count made.0 ≡ length values.items) × (word_count made.0 ≡ length words.now)) }
         ensures pass { IfOk result (λ made. IsPassOf made.0 made.1 × IsAtRest made.1 × (made.1.id ≡ 0) × (known made.1 ≡ P.first about.now)) }
+        ensures key { IfOk result (λ made. made.0.table.shared.key ≡ about.now) }
         ensures refused { IfErr result (λ e. e.0.items ≡ values.items) }
     {
         let count = values.len();

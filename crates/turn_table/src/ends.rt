@@ -50,7 +50,7 @@ impl<V: Journalled> Turns<V> {
             first,
         };
         let (lock, pass) = TurnLock::new(alloc, values, words.as_slice(), &opening)?;
-        let turns = Turns { lock, opening };
+        let turns = Turns { lock };
         Ok((turns, Seat { pass, number: 0 }))
     }
 
@@ -65,7 +65,7 @@ impl<V: Journalled> Turns<V> {
         ensures drawn { (x : ℕ) → Among x seat.drawn → x < result.1 }
         ensures most { result.1 ≤ 2 ^ 40 + max self.first (2 ^ 63) }
     {
-        let Turns { lock, opening: _ } = self;
+        let Turns { lock } = self;
         let Seat { pass, number: _ } = seat;
         lock.close(pass, 0)
     }

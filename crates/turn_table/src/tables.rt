@@ -33,7 +33,6 @@ impl<V: Journalled> Protocol<V, Know<V::Note, V::Base>, Opening<V>> for Knowing<
 #[derive(Drop)]
 pub struct Turns<V: Journalled> {
     pub(crate) lock: TurnLock<V, Know<V::Note, V::Base>, Opening<V>, Knowing<V>>,
-    pub(crate) opening: Opening<V>,
 }
 
 impl<V: Journalled> Model for Turns<V> {
@@ -43,7 +42,7 @@ impl<V: Journalled> Model for Turns<V> {
 
     ghost Value = { Table V.Base };
 
-    ghost view = { λ t. record { id = t.lock.table.shared.table_id; first = t.opening.first; bases = map V.base t.opening.values.value.items } };
+    ghost view = { λ t. record { id = t.lock.table.shared.table_id; first = t.lock.table.shared.key.first; bases = map V.base t.lock.table.shared.key.values.value.items } };
 
-    ghost invariant = { λ t. (slot_count t.lock ≡ length t.opening.values.value.items) × (word_count t.lock ≡ length t.opening.values.value.items + 2) };
+    ghost invariant = { λ t. (slot_count t.lock ≡ length t.lock.table.shared.key.values.value.items) × (word_count t.lock ≡ length t.lock.table.shared.key.values.value.items + 2) };
 }

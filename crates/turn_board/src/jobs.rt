@@ -1,0 +1,91 @@
+//! What a seat does on boards.
+ghost use Rattle.std.specs.Prelude.{◌≡◌, ℕ, ◌+◌, ◌<◌, ◌≤◌, [], length, Some, All, slice_index_or};
+ghost use Rattle.turn_facts.specs.Notes.{Adds};
+ghost use Rattle.turn_table.specs.Knowledge.{at_slot};
+ghost use Rattle.turn_table.specs.Seats.{IsGiven, fresh};
+ghost use Rattle.turn_board.specs.Jobs.{IsReady, Spent};
+
+use crate::boards::{Board, Entry};
+use row_types::Memory;
+use std::sync::Wait;
+use std::thread;
+use std::thread::Threads;
+use turn_table::{Seat, Turn, Turns};
+
+/// A seat, the slot of the board that it writes on, and how many entries it is to write. `done` tells whether memory was wanting.
+#[derive(Drop)]
+pub struct Job {
+    pub seat: Seat<Board>,
+    pub slot: usize,
+    pub times: u64,
+    pub done: Result<(), Memory>,
+}
+
+// Writes one entry under a turn that was just entered. Its number is drawn once there is room.
+fn put(turns: &Turns<Board>, seat: &mut Seat<Board>, turn: &mut Turn<Board>) -> Result<(), Memory>
+    requires seat { (seat.old.table ≡ turns.now) × (1 ≤ seat.old.allowance) × (seat.old.mark ≡ length seat.old.drawn) }
+    requires turn { IsGiven seat.old turn.old }
+    requires entries { turn.old.value.entries ≡ at_slot seat.old.seen turn.old.slot }
+    ensures seat { Spent 1 seat.old seat.new }
+    ensures turn { IsGiven seat.new turn.new × (turn.new.slot ≡ turn.old.slot) }
+    ensures notes { Adds (λ e. e.by) (λ e. Some e.at) seat.new.number (fresh seat.new) (at_slot seat.new.seen turn.new.slot) turn.new.value.entries }
+    ensures channel { turn.new.value.channel ≡ turn.old.value.channel }
+{
+    turn.value_mut().reserve()?;
+    let at = turns.draw(seat);
+    let by = seat.number();
+    turn.value_mut().add(Entry { by, at });
+    Ok(())
+}
+
+/// Writes one entry under a turn of its own.
+pub fn write<R: Wait>(
+    rt: &R,
+    turns: &Turns<Board>,
+    seat: &mut Seat<Board>,
+    slot: usize,
+) -> Result<(), Memory>
+    requires seat { IsReady turns.now 1 seat.old }
+    requires slot { slot < length turns.now.bases }
+    ensures { Spent 1 seat.old seat.new }
+{
+    let mut turn = turns.enter(rt, seat, slot);
+    let done = put(turns, seat, &mut turn);
+    turns.leave(seat, turn);
+    done
+}
+
+fn write_all<R: Wait>(
+    rt: &R,
+    turns: &Turns<Board>,
+    seat: &mut Seat<Board>,
+    slot: usize,
+    times: u64,
+) -> Result<(), Memory>
+    requires seat { IsReady turns.now times seat.old }
+    requires slot { slot < length turns.now.bases }
+    ensures { Spent times seat.old seat.new }
+{
+    for _ in 0..times {
+        write(rt, turns, seat, slot)?;
+    }
+    Ok(())
+}
+
+fn run_job<R: Wait>(rt: &R, turns: &Turns<Board>, job: &mut Job)
+    requires { IsReady turns.now job.old.times job.old.seat × (job.old.slot < length turns.now.bases) }
+    ensures { Spent job.old.times job.old.seat job.new.seat }
+{
+    let times = job.times;
+    let slot = job.slot;
+    job.done = write_all(rt, turns, &mut job.seat, slot, times);
+}
+
+/// Runs each job on a thread of its own.
+pub fn run_all<R: Threads + Wait + Sync>(rt: &R, turns: &Turns<Board>, jobs: &mut [Job])
+    requires { All (λ job. IsReady turns.now job.times job.seat × (job.slot < length turns.now.bases)) jobs.old }
+    ensures { (i : ℕ) (d : Job) → i < length jobs.old → Spent (slice_index_or jobs.old i d).times (slice_index_or jobs.old i d).seat (slice_index_or jobs.new i d).seat }
+{
+    let threads = jobs.len().max(1);
+    thread::for_each_mut(rt, jobs, threads, &|_, job| run_job(rt, turns, job));
+}
