@@ -13,3 +13,6 @@ pub use crate::laws::stability;
 pub use crate::logs::{Entry, Write};
 pub use crate::queries::{Plan, Query};
 pub use crate::slow::{apply, live_at, scan_at};
+
+#[cfg(test)]
+mod tests;

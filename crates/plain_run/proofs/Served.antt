@@ -21,12 +21,11 @@ use Rattle.hybrid_time.specs.declared.levels.Level.TheVariants.{Strong, Bounded,
 use Rattle.hybrid_time.specs.declared.times.Timestamp.{Timestamp}
 use Rattle.hybrid_time.specs.Levels.{guarantee_of}
 use Rattle.log_model.specs.declared.logs.Write.{Write}
-use Rattle.log_model.specs.declared.logs.Write.TheVariants.{Insert, Upsert, Delete}
 use Rattle.log_model.specs.declared.logs.Entry.{Entry}
 use Rattle.log_model.specs.declared.queries.Plan.{Plan}
 use Rattle.log_model.specs.declared.queries.Query.{Query}
 use Rattle.log_model.specs.Logs.{key_of, below, rows_of, live}
-use Rattle.log_model.specs.Scans.{hit_of, scan, FitsDimension}
+use Rattle.log_model.specs.Scans.{hit_of, scan}
 use Rattle.log_model.proofs.LogLaws.{each_implied, below-all, below-more, live-all}
 use Rattle.answer_lines.specs.declared.answers.Wrote.{Wrote}
 use Rattle.answer_lines.specs.declared.answers.Answer.{Answer}
@@ -34,7 +33,6 @@ use Rattle.answer_lines.specs.declared.answers.Answer.TheVariants as answers
 use Rattle.request_lines.specs.declared.requests.Request.{Request}
 use Rattle.request_lines.specs.declared.requests.Ask.{Ask}
 use Rattle.request_lines.specs.declared.requests.Ask.TheVariants as asks
-use Rattle.request_lines.specs.Requests.{FitsWrite}
 use Rattle.legal_output.specs.Lines.{Start, Given, Finish, drawn, IsOfMetric, IsReplyTo}
 use Rattle.legal_output.specs.Legal.{told_of}
 use Rattle.legal_output.specs.Runs.{Plain, Serves}
@@ -267,11 +265,6 @@ snapshot_facts tick guarantee now ts clock before most last drawn = by_order tic
 
 pub given_alone : (request : Request) (ask : Ask) → request.caller ≡ 0 → request.what ≡ ask → Given request ≡ alone ask
 given_alone request ask caller what = λ i. Given (record { caller = caller i; what = what i })
-
-pub fits_write : (dim : ℕ) (write : Write) → FitsWrite dim write → FitsDimension dim write
-fits_write dim (Insert row) fits = fits
-fits_write dim (Upsert row) fits = fits
-fits_write dim (Delete key) fits = fits
 
 pub ok_implied : {T E : Type 0} (P Q : T → Type 0) → ((x : T) → P x → Q x) → (r : Result T E) → IfOk r P → IfOk r Q
 ok_implied P Q f (Ok x) holds = f x holds

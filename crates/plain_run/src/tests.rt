@@ -1,14 +1,15 @@
-//! A run of a few requests, and the slow functions that it stands for.
+//! Runs of a few requests.
 
 ghost use Rattle.std.specs.Prelude.{◌≡◌, length, IfOk};
+ghost use Rattle.request_lines.specs.Requests.{FitsAsk};
 
 use crate::PlainRun;
 use answer_lines::{Answer, WriteReply, Wrote};
 use coarse_lists::{Collection, Index};
-use hybrid_time::Timestamp;
-use log_model::{Entry, Write, live_at};
+use hybrid_time::{Level, Timestamp};
+use log_model::{Query, Write};
 use request_lines::{Ask, Request};
-use row_types::{BitVector, Key, List, Memory, Metric, Row, Schema};
+use row_types::{BitVector, Distance, Hit, Key, List, Memory, Metric, Row, Schema};
 use std::alloc::Global;
 use std::process::Abort;
 
@@ -29,14 +30,20 @@ fn collection(alloc: Global) -> Collection
     }
 }
 
-fn row(rt: &impl Abort, alloc: Global, key: i64, byte: u8) -> Result<Row, Memory>
-    ensures { IfOk result (λ row. length row.vector ≡ 8) }
+fn vector(rt: &impl Abort, alloc: Global, byte: u8) -> Result<BitVector, Memory>
+    ensures { IfOk result (λ vector. length vector ≡ 8) }
 {
     let vector = BitVector::from_bytes(alloc, &[byte])?;
     assert!(rt; vector.dim() == 8);
+    Ok(vector)
+}
+
+fn row(rt: &impl Abort, alloc: Global, key: i64, byte: u8) -> Result<Row, Memory>
+    ensures { IfOk result (λ row. length row.vector ≡ 8) }
+{
     Ok(Row {
         key: Key(key),
-        vector,
+        vector: vector(rt, alloc, byte)?,
         fields: List::empty(alloc),
     })
 }
@@ -65,20 +72,53 @@ fn an_insert_of_a_live_key_changes_nothing(rt: HostRuntime) -> Result<(), Memory
     Ok(())
 }
 
+/// A search for the two nearest to `0f`.
+fn search(rt: &impl Abort, alloc: Global, level: Level) -> Result<Request, Memory>
+    ensures fits { IfOk result (λ request. FitsAsk 8 request.what) }
+    ensures caller { IfOk result (λ request. request.caller ≡ 0) }
+{
+    let query = Query {
+        vector: vector(rt, alloc, 0x0f)?,
+        k: 2,
+    };
+    let wait = true;
+    Ok(Request {
+        caller: 0,
+        what: Ask::Search { query, level, wait },
+    })
+}
+
+fn near(key: i64) -> Hit {
+    Hit {
+        distance: Distance::Hamming(0),
+        key: Key(key),
+    }
+}
+
 #[test]
-fn a_deleted_row_is_live_before_its_end_alone(rt: HostRuntime) -> Result<(), Memory> {
+fn a_search_of_the_last_tick_leaves_later_writes_out(rt: HostRuntime) -> Result<(), Memory> {
     let alloc = rt.alloc();
-    let mut log = Vec::new(alloc);
-    log.push(Entry {
-        ts: Timestamp(2),
-        write: Write::Upsert(row(&rt, alloc, 7, 0x0f)?),
-    })?;
-    log.push(Entry {
-        ts: Timestamp(4),
-        write: Write::Delete(Key(7)),
-    })?;
-    for (ts, want) in [(1u64, 0usize), (2, 1), (3, 1), (4, 0)] {
-        assert!(&rt; live_at(alloc, log.as_slice(), Timestamp(ts))?.len() == want);
+    let collection = collection(alloc);
+    let mut run = PlainRun::new(alloc);
+    for (key, level, ts, want) in [
+        (7, Level::Strong, 3u64, [near(7)].as_slice()),
+        (9, Level::Eventually, 3, [near(7)].as_slice()),
+        (5, Level::Session, 8, [near(5), near(7)].as_slice()),
+    ] {
+        let write = Write::Upsert(row(&rt, alloc, key, 0x0f)?);
+        let request = Request {
+            caller: 0,
+            what: Ask::Write(write),
+        };
+        run.serve(alloc, &collection, request, 0)?;
+        let request = search(&rt, alloc, level)?;
+        match run.serve(alloc, &collection, request, 0)? {
+            Answer::Hits { ts: at, hits, .. } => {
+                assert_eq!(&rt; at, Timestamp(ts));
+                assert_eq!(&rt; hits.as_slice(), want);
+            }
+            _ => assert!(&rt; false),
+        }
     }
     Ok(())
 }

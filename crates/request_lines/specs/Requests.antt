@@ -10,9 +10,9 @@ use Rattle.row_types.specs.declared.rows.Key.{Key}
 use Rattle.row_types.specs.declared.rows.Row.{Row}
 use Rattle.hybrid_time.specs.declared.levels.Level.{Level}
 use Rattle.hybrid_time.specs.declared.levels.Level.TheVariants.{Strong, Bounded, Session, Eventually}
-use Rattle.log_model.specs.declared.logs.Write.{Write}
 use Rattle.log_model.specs.declared.logs.Write.TheVariants as writes
 use Rattle.log_model.specs.declared.queries.Query.{Query}
+use Rattle.log_model.specs.Scans.{FitsDimension}
 use Rattle.coarse_lists.specs.declared.collections.Collection.{Collection}
 use Rattle.answer_lines.specs.declared.reasons.Reason.{Reason}
 use Rattle.answer_lines.specs.declared.reasons.Reason.TheVariants.{NotJson, NotObject, BadOp, LateCreate, UnknownMember, BadKey, NoVector, BadVector, BadK, BadLevel}
@@ -138,18 +138,13 @@ abbrev pub request_of : Collection → List ℕ → Result Request Reason
 request_of collection bytes = and_then (json_in bytes) (λ d. and_then (object_in d) (request_in collection))
 
 -- the vector and the number of a request are such as the collection takes
-abbrev pub FitsWrite : ℕ → Write → Type 0
-FitsWrite dim (writes.Insert row) = length row.vector ≡ dim
-FitsWrite dim (writes.Upsert row) = length row.vector ≡ dim
-FitsWrite dim (writes.Delete key) = Unit {0}
-
 pub record FitsQuery (dim : ℕ) (query : Query) : Type 0 where
   pub vector : length query.vector ≡ dim
   pub least : 1 ≤ query.k
   pub most : query.k ≤ max_k
 
 abbrev pub FitsAsk : ℕ → Ask → Type 0
-FitsAsk dim (asks.Write write) = FitsWrite dim write
+FitsAsk dim (asks.Write write) = FitsDimension dim write
 FitsAsk dim (asks.Search query level wait) = FitsQuery dim query
 FitsAsk dim asks.Tick = Unit {0}
 

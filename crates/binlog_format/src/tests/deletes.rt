@@ -2,7 +2,7 @@ use super::super::*;
 use hybrid_time::Timestamp;
 use std::test::*;
 
-/// Segment 0, applied up to 5, row 0 dead at 3.
+/// Segment 0, applied up to 5, its first row dead at 3.
 const BYTES: [u8; 40] = [
     0x4d, 0x41, 0x4e, 0x55, 0x44, 0x45, 0x4c, 0x31, // the name
     0, 0, 0, 0, 0, 0, 0, 0, // the segment
@@ -34,7 +34,7 @@ fn a_delete_log_is_refused_at_its_first_wrong_item(rt: HostRuntime) {
         (15, 0x10, 8, FormatKind::Range), // segment 2^60
         (26, 2, 24, FormatKind::Range), // 131,073 marks
         (24, 2, 40, FormatKind::Short), // two marks
-        (30, 1, 28, FormatKind::Range), // row 65,536
+        (30, 1, 28, FormatKind::Range), // one beyond the greatest row
     ] {
         let mut bytes = BYTES;
         if let Some(slot) = bytes.get_mut(place) {

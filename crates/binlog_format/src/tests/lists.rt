@@ -44,8 +44,8 @@ fn a_list_file_is_refused_at_its_first_wrong_item(rt: HostRuntime) {
         (28, 3, 28, FormatKind::Sum), // three rows in the first list
         (32, 2, 32, FormatKind::Sum), // three rows together
         (32, 0, 36, FormatKind::Sum), // one row together
-        (36, 2, 36, FormatKind::Range), // row 2 of two
-        (40, 0, 40, FormatKind::Range), // row 0 once more
+        (36, 2, 36, FormatKind::Range), // there are two rows
+        (40, 0, 40, FormatKind::Range), // the first row once more
     ] {
         let mut bytes = BYTES;
         if let Some(slot) = bytes.get_mut(place) {

@@ -5,7 +5,7 @@ use Rattle.request_lines.specs.Requests.{FitsAsk}
 use Rattle.legal_output.specs.Outputs.{start_of}
 use Rattle.legal_output.specs.Runs.{Serves}
 use Rattle.plain_run.specs.Accounts.{plain_of}
-use Rattle.plain_run.proofs.Served.{given_alone, ok_implied, fits_write, later_moments}
+use Rattle.plain_run.proofs.Served.{given_alone, ok_implied, later_moments}
 use Rattle.plain_run.proofs.runs.PlainRun.serve.Goals as goal
 
 pub returns-in-Write-clause-serves : goal.returns-in-Write-clause-serves
@@ -22,7 +22,7 @@ returns-in-Write-clause-run c =
     let fits = subst (FitsAsk c.args.collection.now.dim) (c.in-Write.is ∙ ap asks.Write (sym c.in-Write.write-is)) c.requires.fits in
     record {
       channels = c.requires.run.channels;
-      fits = c.write.ensures.fits c.args.collection.now.dim c.requires.run.fits (fits_write c.args.collection.now.dim _ fits);
+      fits = c.write.ensures.fits c.args.collection.now.dim c.requires.run.fits fits;
     }
 
 pub returns-in-Search-clause-moments : goal.returns-in-Search-clause-moments
