@@ -11,11 +11,16 @@ pub record Kept : Type 0 where
   pub k : ℕ
   pub hits : List Hit
 
--- a list in order, in a buffer with room for one hit more than it may keep
-pub record IsTop (k : ℕ) (hits : List Hit) (capacity : ℕ) : Type 0 where
+-- hits in a buffer, and how many may stand there from the first on
+pub record Standing : Type 0 where
+  pub hits : List Hit
+  pub room : ℕ
+
+-- a list in order, with room for one hit more than it may keep
+pub record IsTop (k : ℕ) (hits : List Hit) (room : ℕ) : Type 0 where
   pub own : least k hits ≡ hits
   pub some : 0 < k
-  pub room : k < capacity
+  pub free : k < room
 
 -- k hits are kept, and this one is behind none of them
 pub record IsLast (k : ℕ) (hits : List Hit) (last : Hit) : Type 0 where

@@ -1,10 +1,10 @@
 //! The steps on the buffer of a list. None of them takes memory.
 
 ghost use Rattle.std.specs.Prelude.{◌≡◌, ◌+◌, ◌<◌, ◌≤◌, ◌∷◌, ◌++◌, [], length, MatchOption, vec_len, vec_capacity};
-ghost use Rattle.std.specs.List.{insert};
 ghost use Rattle.row_types.specs.Hits.{least};
 ghost use Rattle.top_list.specs.Kept.{IsLast, is_after};
 
+use crate::windows::Window;
 use row_types::Hit;
 
 // Adds a hit at the end.
@@ -17,30 +17,21 @@ pub(crate) fn push_hit(hits: &mut Vec<Hit>, hit: Hit)
     let _pushed = hits.push(hit);
 }
 
-// Puts a hit before those from `at` on.
-fn insert_hit(hits: &mut Vec<Hit>, at: usize, hit: Hit)
-    requires room { vec_len hits.old < vec_capacity hits.old }
-    requires within { at ≤ vec_len hits.old }
-    ensures items { hits.new.items ≡ insert hits.old.items at hit }
-    ensures capacity { vec_capacity hits.old ≤ vec_capacity hits.new }
-{
-    let _inserted = hits.insert(at, hit);
-}
-
 // Puts a hit in its place among at most k hits that rise, and keeps k.
-pub(crate) fn place(hits: &mut Vec<Hit>, k: u32, hit: Hit)
+pub(crate) fn place(window: &mut Window, k: u32, hit: Hit)
     requires some { 0 < k }
-    requires own { least k hits.old.items ≡ hits.old.items }
-    requires room { k < vec_capacity hits.old }
-    ensures items { hits.new.items ≡ least k (hits.old.items ++ hit ∷ []) }
-    ensures capacity { vec_capacity hits.old ≤ vec_capacity hits.new }
+    requires own { least k window.old.hits ≡ window.old.hits }
+    requires room { k < window.old.room }
+    ensures hits { window.new.hits ≡ least k (window.old.hits ++ hit ∷ []) }
+    ensures room { k < window.new.room }
 {
+    let hits = window.as_slice();
     if is_behind(last_of(hits, k), &hit) {
         return;
     }
     if let Err(at) = hits.binary_search(&hit) {
-        insert_hit(hits, at, hit);
-        hits.truncate(k as usize);
+        window.insert(k, at, hit);
+        window.truncate(k);
     }
 }
 

@@ -8,6 +8,7 @@
 mod buffers;
 mod filling;
 mod tops;
+mod windows;
 
 pub use crate::filling::Gather;
 pub use crate::tops::TopList;

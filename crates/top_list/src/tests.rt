@@ -70,6 +70,41 @@ fn the_k_least_are_kept_each_once(rt: HostRuntime) -> Result<(), Memory> {
     )
 }
 
+// Asserts that of hits at each distance below 200 the k nearest are kept, by single offers, and where
+// the second half is filled at once. They are offered in steps round the circle of distances: a step
+// of 1 rises, one of 199 falls, and others mix.
+fn expect_nearest(rt: &impl Abort, alloc: Global, k: u32, step: u32) -> Result<(), Memory>
+    requires some { 1 ≤ k }
+    requires bound { k ≤ 200 }
+    requires within { step ≤ 200 }
+{
+    let mut list = TopList::new(alloc, k)?;
+    let mut front = TopList::new(alloc, k)?;
+    for turn in 1..=100 {
+        list.offer(bits(turn * step % 200, 7));
+        front.offer(bits(turn * step % 200, 7));
+    }
+    let mut gather = front.gather();
+    for turn in 101..=200 {
+        list.offer(bits(turn * step % 200, 7));
+        gather.offer(bits(turn * step % 200, 7));
+    }
+    let want: Vec<Hit> = (0..k).map(|distance| bits(distance, 7)).collect(alloc)?;
+    assert_eq!(rt; list.hits(), want.as_slice());
+    assert_eq!(rt; gather.settle().hits(), want.as_slice());
+    Ok(())
+}
+
+#[test]
+fn any_order_of_offers_keeps_the_same(rt: HostRuntime) -> Result<(), Memory> {
+    for k in [1, 2, 3, 60, 199] {
+        for step in [1, 199, 77, 123] {
+            expect_nearest(&rt, rt.alloc(), k, step)?;
+        }
+    }
+    Ok(())
+}
+
 #[test]
 fn lists_that_share_keys_merge_to_each_key_once(rt: HostRuntime) -> Result<(), Memory> {
     let mut old = TopList::new(rt.alloc(), 2)?.gather();

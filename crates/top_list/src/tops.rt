@@ -7,6 +7,7 @@ ghost use Rattle.top_list.specs.Kept.{hits_of};
 
 use crate::buffers::{cut, place};
 use crate::filling::Gather;
+use crate::windows::Window;
 use row_types::{Hit, Memory};
 use std::alloc::Global;
 use std::marker::Model;
@@ -18,18 +19,17 @@ use std::marker::Model;
 #[derive(Debug, Drop)]
 pub struct TopList {
     k: u32,
-    hits: Vec<Hit>,
+    hits: Window,
 }
 
 impl Model for TopList {
-    ghost use Rattle.std.specs.Prelude.{vec_capacity};
     ghost use Rattle.top_list.specs.Kept.{Kept, IsTop};
 
     ghost Value = { Kept };
 
-    ghost view = { λ t. record { k = t.k; hits = t.hits.items } };
+    ghost view = { λ t. record { k = t.k; hits = t.hits.hits } };
 
-    ghost invariant = { λ t. IsTop t.k t.hits.items (vec_capacity t.hits) };
+    ghost invariant = { λ t. IsTop t.k t.hits.hits t.hits.room };
 }
 
 impl TopList {
@@ -42,7 +42,7 @@ impl TopList {
         ensures { IfOk result (λ list. list ≡ record { k = k; hits = [] }) }
     {
         let room = k as usize + (k as usize).max(64);
-        let hits = Vec::with_capacity(alloc, room)?;
+        let hits = Window::new(Vec::with_capacity(alloc, room)?);
         Ok(TopList { k, hits })
     }
 
@@ -70,15 +70,16 @@ impl TopList {
     pub fn gather(self) -> Gather
         ensures { result ≡ self }
     {
-        Gather::begin(self.k, self.hits)
+        Gather::begin(self.k, self.hits.into_buffer())
     }
 
-    pub(crate) fn settled(k: u32, mut hits: Vec<Hit>) -> TopList
+    pub(crate) fn settled(k: u32, mut buffer: Vec<Hit>) -> TopList
         requires some { 0 < k }
-        requires room { k < vec_capacity hits }
-        ensures { result ≡ record { k = k; hits = least k hits.items } }
+        requires room { k < vec_capacity buffer }
+        ensures { result ≡ record { k = k; hits = least k buffer.items } }
     {
-        let _last = cut(&mut hits, k);
+        let _last = cut(&mut buffer, k);
+        let hits = Window::new(buffer);
         TopList { k, hits }
     }
 
