@@ -1,9 +1,9 @@
 //! What a seat does on boards.
-ghost use Rattle.std.specs.Prelude.{◌≡◌, ℕ, ◌+◌, ◌<◌, ◌≤◌, [], length, Some, All, slice_index_or};
+ghost use Rattle.std.specs.Prelude.{◌≡◌, ℕ, ◌<◌, ◌≤◌, [], ◌∷◌, List, length, Some, OnOk, OnErr, All, slice_index_or};
 ghost use Rattle.turn_facts.specs.Notes.{Adds};
 ghost use Rattle.turn_table.specs.Knowledge.{at_slot};
 ghost use Rattle.turn_table.specs.Seats.{IsGiven, fresh};
-ghost use Rattle.turn_board.specs.Jobs.{IsReady, Spent};
+ghost use Rattle.turn_board.specs.Jobs.{IsReady, Put, Wrote, Tells, Did};
 
 use crate::boards::{Board, Entry};
 use row_types::Memory;
@@ -26,7 +26,8 @@ fn put(turns: &Turns<Board>, seat: &mut Seat<Board>, turn: &mut Turn<Board>) -> 
     requires seat { (seat.old.table ≡ turns.now) × (1 ≤ seat.old.allowance) × (seat.old.mark ≡ length seat.old.drawn) }
     requires turn { IsGiven seat.old turn.old }
     requires entries { turn.old.value.entries ≡ at_slot seat.old.seen turn.old.slot }
-    ensures seat { Spent 1 seat.old seat.new }
+    ensures written { OnOk result ((at : ℕ) × Put at seat.old seat.new turn.old.value.entries turn.new.value.entries) }
+    ensures refused { OnErr result ((seat.new ≡ seat.old) × (turn.new.value.entries ≡ turn.old.value.entries)) }
     ensures turn { IsGiven seat.new turn.new × (turn.new.slot ≡ turn.old.slot) }
     ensures notes { Adds (λ e. e.by) (λ e. Some e.at) seat.new.number (fresh seat.new) (at_slot seat.new.seen turn.new.slot) turn.new.value.entries }
     ensures channel { turn.new.value.channel ≡ turn.old.value.channel }
@@ -47,7 +48,8 @@ pub fn write<R: Wait>(
 ) -> Result<(), Memory>
     requires seat { IsReady turns.now 1 seat.old }
     requires slot { slot < length turns.now.bases }
-    ensures { Spent 1 seat.old seat.new }
+    ensures written { OnOk result ((at : ℕ) × Wrote (at ∷ []) slot seat.old seat.new) }
+    ensures refused { OnErr result (Wrote [] slot seat.old seat.new) }
 {
     let mut turn = turns.enter(rt, seat, slot);
     let done = put(turns, seat, &mut turn);
@@ -64,7 +66,7 @@ fn write_all<R: Wait>(
 ) -> Result<(), Memory>
     requires seat { IsReady turns.now times seat.old }
     requires slot { slot < length turns.now.bases }
-    ensures { Spent times seat.old seat.new }
+    ensures { (numbers : List ℕ) × Wrote numbers slot seat.old seat.new × Tells result times numbers }
 {
     for _ in 0..times {
         write(rt, turns, seat, slot)?;
@@ -74,7 +76,7 @@ fn write_all<R: Wait>(
 
 fn run_job<R: Wait>(rt: &R, turns: &Turns<Board>, job: &mut Job)
     requires { IsReady turns.now job.old.times job.old.seat × (job.old.slot < length turns.now.bases) }
-    ensures { Spent job.old.times job.old.seat job.new.seat }
+    ensures { Did job.old job.new }
 {
     let times = job.times;
     let slot = job.slot;
@@ -84,7 +86,7 @@ fn run_job<R: Wait>(rt: &R, turns: &Turns<Board>, job: &mut Job)
 /// Runs each job on a thread of its own.
 pub fn run_all<R: Threads + Wait + Sync>(rt: &R, turns: &Turns<Board>, jobs: &mut [Job])
     requires { All (λ job. IsReady turns.now job.times job.seat × (job.slot < length turns.now.bases)) jobs.old }
-    ensures { (i : ℕ) (d : Job) → i < length jobs.old → Spent (slice_index_or jobs.old i d).times (slice_index_or jobs.old i d).seat (slice_index_or jobs.new i d).seat }
+    ensures { (i : ℕ) (d : Job) → i < length jobs.old → Did (slice_index_or jobs.old i d) (slice_index_or jobs.new i d) }
 {
     let threads = jobs.len().max(1);
     thread::for_each_mut(rt, jobs, threads, &|_, job| run_job(rt, turns, job));
