@@ -1,5 +1,5 @@
 -- An entry whose number was drawn under the turn is a note that the seat may add.
-use Rattle.std.proofs.Common.{◌≡◌, ℕ, zero, suc, ◌+◌, ◌-◌, ◌<◌, ◌≤◌, List, [], ◌∷◌, ◌++◌, length, drop, Some, refl, ap, sym, ◌∙◌, subst, arith}
+use Rattle.std.proofs.Common.{◌≡◌, ℕ, zero, suc, ◌+◌, ◌-◌, ◌<◌, List, [], ◌∷◌, ◌++◌, length, drop, Some, ap, sym, ◌∙◌, subst, arith}
 use mathlib.Core.Option.{some-injective, some-ne-none}
 use lib.Seq.{drop-append_seam}
 use Rattle.turn_facts.specs.Counts.{count, Among}

@@ -1,11 +1,16 @@
--- The entries of a seat on a board, as it writes one, and then more.
-use Rattle.std.proofs.Common.{◌≡◌, ◌≢◌, ℕ, zero, suc, ◌+◌, ◌-◌, ◌<◌, ◌≤◌, Bool, cond, List, [], ◌∷◌, ◌++◌, map, length, set, refl, ap, sym, ◌∙◌, subst, arith, append-nil, append_assoc, length-append, eq-eqb}
-use Rattle.std.proofs.lemmas.List.{length-set, get_or-set_same, get_or-set_other, map-append}
+-- The entries of a seat on a board, when it leaves the turn under which it wrote.
+use Rattle.std.proofs.Common.{◌≡◌, ℕ, zero, suc, ◌+◌, ◌-◌, ◌<◌, ◌≤◌, Bool, cond, List, [], ◌∷◌, ◌++◌, map, length, set, refl, ap, sym, ◌∙◌, subst, arith, append-nil, length-append, eq-eqb}
+use Rattle.std.specs.Prelude.{OnOk, OnErr}
+use Rattle.std.specs.declared.result.Result.{Result}
+use Rattle.std.proofs.lemmas.Result.{on_ok_weaker, on_err_weaker}
+use Rattle.std.proofs.lemmas.List.{length-set, get_or-set_same, get_or-set_other}
 use Rattle.turn_lock.specs.declared.tickets.Ticket.{Ticket}
+use Rattle.turn_facts.specs.Counts.{count, Among}
 use Rattle.turn_facts.specs.Notes.{of}
 use Rattle.turn_facts.specs.Prefixes.{StartsWith}
+use Rattle.turn_facts.proofs.Counts.{count-here}
 use Rattle.turn_facts.proofs.Notes.{of-append}
-use Rattle.turn_facts.proofs.Prefixes.{starts_all, starts_longer, starts_trans}
+use Rattle.turn_facts.proofs.Prefixes.{starts_longer, starts_trans}
 use Rattle.turn_table.specs.Knowledge.{at_slot}
 use Rattle.turn_table.specs.Seats.{SeatView}
 use Rattle.turn_board.specs.Jobs.{entry, own_entries, Put, Wrote}
@@ -55,7 +60,7 @@ wrote_in_turn old k journal numbers slot more mine enough rest =
       turns = sym rest;
     }
 
-pub wrote_one : (old inside put new : SeatView Entry ℕ) (k j at : ℕ) (journal after : List Entry) (tickets : List Ticket) → j ≡ k → k < length inside.seen → StartsWith journal (at_slot old.seen k) → of (λ (e : Entry). e.by) old.number journal ≡ own_entries old k → 1 ≤ old.allowance → old.turns ≡ []
+wrote_one : (old inside put new : SeatView Entry ℕ) (k j at : ℕ) (journal after : List Entry) (tickets : List Ticket) → j ≡ k → k < length inside.seen → StartsWith journal (at_slot old.seen k) → of (λ (e : Entry). e.by) old.number journal ≡ own_entries old k → 1 ≤ old.allowance → old.turns ≡ []
     → inside ≡ record old { seen = set old.seen k journal; turns = tickets; mark = length old.drawn } → Put at inside put journal after → new ≡ record put { seen = set put.seen j after; turns = [] } → Wrote (at ∷ []) k old new
 unfolding after_turn
 wrote_one old inside put new k j at journal after tickets place slot more mine enough rest enters puts leaves =
@@ -66,7 +71,7 @@ wrote_one old inside put new k j at journal after tickets place slot more mine e
     let is : new ≡ after_turn old k journal (at ∷ []) = leaves ∙ ap (λ (l : List (List Entry)). record put { seen = l; turns = [] }) seen ∙ ap (λ (s : SeatView Entry ℕ). record s { seen = set old.seen k (journal ++ entry old.number at ∷ []); turns = [] }) puts.seat ∙ ap (λ (s : SeatView Entry ℕ). record s { drawn = s.drawn ++ at ∷ []; allowance = s.allowance - 1; seen = set old.seen k (journal ++ entry old.number at ∷ []); turns = [] }) enters in
     subst (Wrote (at ∷ []) k old) (sym is) (wrote_in_turn old k journal (at ∷ []) (omega arith) more mine enough rest)
 
-pub wrote_none : (old inside put new : SeatView Entry ℕ) (k j : ℕ) (journal after : List Entry) (tickets : List Ticket) → j ≡ k → k < length inside.seen → StartsWith journal (at_slot old.seen k) → of (λ (e : Entry). e.by) old.number journal ≡ own_entries old k → old.turns ≡ []
+wrote_none : (old inside put new : SeatView Entry ℕ) (k j : ℕ) (journal after : List Entry) (tickets : List Ticket) → j ≡ k → k < length inside.seen → StartsWith journal (at_slot old.seen k) → of (λ (e : Entry). e.by) old.number journal ≡ own_entries old k → old.turns ≡ []
     → inside ≡ record old { seen = set old.seen k journal; turns = tickets; mark = length old.drawn } → (put ≡ inside) × (after ≡ journal) → new ≡ record put { seen = set put.seen j after; turns = [] } → Wrote [] k old new
 unfolding after_turn
 wrote_none old inside put new k j journal after tickets place slot more mine rest enters puts leaves =
@@ -78,38 +83,20 @@ wrote_none old inside put new k j journal after tickets place slot more mine res
     let drew : new ≡ after_turn old k journal [] = is ∙ ap (λ (n : ℕ). record old { allowance = n; seen = set old.seen k (journal ++ []); turns = []; mark = length old.drawn }) kept ∙ ap (λ (l : List ℕ). record old { drawn = l; allowance = old.allowance - 0; seen = set old.seen k (journal ++ []); turns = []; mark = length old.drawn }) (sym (append-nil old.drawn)) in
     subst (Wrote [] k old) (sym drew) (wrote_in_turn old k journal [] (omega arith) more mine (omega arith) rest)
 
-pub wrote_nothing : (k : ℕ) (seat : SeatView Entry ℕ) → Wrote [] k seat seat
-wrote_nothing k seat = record {
-  drawn = sym (append-nil seat.drawn);
-  own = sym (append-nil (own_entries seat k));
-  allowance = refl;
-  more = starts_all (at_slot seat.seen k);
-  others = λ j n. refl;
-  boards = refl;
-  table = refl;
-  number = refl;
-  joined = refl;
-  least = refl;
-  turns = refl;
-}
+module _ {T E : Type 0} (answer : Result T E) (old inside put new : SeatView Entry ℕ) (k i j : ℕ) (journal after : List Entry) (tickets : List Ticket) where
+  -- the notes of the seat itself are those that it had seen
+  own_found : ((n : ℕ) → Among n (old.number ∷ old.joined) → of (λ (e : Entry). e.by) n journal ≡ of (λ (e : Entry). e.by) n (at_slot old.seen k)) → of (λ (e : Entry). e.by) old.number journal ≡ own_entries old k
+  own_found mine = let first : count old.number (old.number ∷ old.joined) ≡ 1 + count old.number old.joined = count-here old.number old.joined in mine old.number (omega arith)
 
-pub wrote_more : (k : ℕ) (a b c : SeatView Entry ℕ) (xs ys : List ℕ) → Wrote xs k a b → Wrote ys k b c → Wrote (xs ++ ys) k a c
-wrote_more k a b c xs ys v w =
-    let same : map (entry b.number) ys ≡ map (entry a.number) ys = ap (λ (n : ℕ). map (entry n) ys) v.number in
-    let both : map (entry a.number) (xs ++ ys) ≡ map (entry a.number) xs ++ map (entry a.number) ys = map-append (entry a.number) xs ys in
-    let first : own_entries b k ≡ own_entries a k ++ map (entry a.number) xs = v.own in
-    let left : a.allowance + length a.drawn ≡ b.allowance + length b.drawn = sym v.allowance in
-    let right : c.allowance + length c.drawn ≡ b.allowance + length b.drawn = w.allowance in
-    record {
-      drawn = w.drawn ∙ ap (λ (l : List ℕ). l ++ ys) v.drawn ∙ append_assoc a.drawn xs ys;
-      own = w.own ∙ ap (λ (l : List Entry). l ++ map (entry b.number) ys) first ∙ append_assoc (own_entries a k) (map (entry a.number) xs) (map (entry b.number) ys) ∙ ap (λ (l : List Entry). own_entries a k ++ (map (entry a.number) xs ++ l)) same ∙ ap (λ (l : List Entry). own_entries a k ++ l) (sym both);
-      allowance = right ∙ sym left;
-      more = starts_trans w.more v.more;
-      others = λ j n. w.others j n ∙ v.others j n;
-      boards = w.boards ∙ v.boards;
-      table = w.table ∙ v.table;
-      number = w.number ∙ v.number;
-      joined = w.joined ∙ v.joined;
-      least = w.least ∙ v.least;
-      turns = w.turns ∙ v.turns;
-    }
+  -- what is written under a turn, once it is left
+  pub left_written : OnOk answer ((at : ℕ) × Put at inside put journal after) → inside ≡ record old { seen = set old.seen k journal; turns = tickets; mark = length old.drawn } → new ≡ record put { seen = set put.seen j after; turns = [] } → j ≡ i → i ≡ k → i < length inside.seen → StartsWith journal (at_slot old.seen k)
+      → ((n : ℕ) → Among n (old.number ∷ old.joined) → of (λ (e : Entry). e.by) n journal ≡ of (λ (e : Entry). e.by) n (at_slot old.seen k)) → 1 ≤ old.allowance → old.turns ≡ [] → OnOk answer ((at : ℕ) × Wrote (at ∷ []) k old new)
+  left_written puts enters leaves stays place slot more mine enough rest =
+      let slot' : k < length inside.seen = subst (λ (n : ℕ). n < length inside.seen) place slot in
+      on_ok_weaker answer (λ p. (p.0, wrote_one old inside put new k j p.0 journal after tickets (stays ∙ place) slot' more (own_found mine) enough rest enters p.1 leaves)) puts
+
+  pub left_refused : OnErr answer ((put ≡ inside) × (after ≡ journal)) → inside ≡ record old { seen = set old.seen k journal; turns = tickets; mark = length old.drawn } → new ≡ record put { seen = set put.seen j after; turns = [] } → j ≡ i → i ≡ k → i < length inside.seen → StartsWith journal (at_slot old.seen k)
+      → ((n : ℕ) → Among n (old.number ∷ old.joined) → of (λ (e : Entry). e.by) n journal ≡ of (λ (e : Entry). e.by) n (at_slot old.seen k)) → old.turns ≡ [] → OnErr answer (Wrote [] k old new)
+  left_refused puts enters leaves stays place slot more mine rest =
+      let slot' : k < length inside.seen = subst (λ (n : ℕ). n < length inside.seen) place slot in
+      on_err_weaker answer (λ p. wrote_none old inside put new k j journal after tickets (stays ∙ place) slot' more (own_found mine) rest enters p leaves) puts

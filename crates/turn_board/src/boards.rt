@@ -1,5 +1,5 @@
 //! Boards.
-ghost use Rattle.std.specs.Prelude.{◌≡◌, ◌-◌, ◌+◌, ◌^◌, ◌≤◌, [], ◌∷◌, ◌++◌, OnOk};
+ghost use Rattle.std.specs.Prelude.{◌≡◌, ◌-◌, ◌+◌, ◌^◌, ◌≤◌, [], ◌∷◌, ◌++◌, OnOk, OnErr};
 
 use row_types::Memory;
 use std::alloc::Global;
@@ -49,10 +49,11 @@ impl Board {
         self.entries.as_slice()
     }
 
-    /// Makes room for one entry.
+    /// Makes room for one entry. It is refused only where there is none.
     pub fn reserve(&mut self) -> Result<(), Memory>
         ensures same { (self.new.entries ≡ self.old.entries) × (self.new.channel ≡ self.old.channel) }
         ensures room { OnOk result (1 ≤ self.new.room) }
+        ensures full { OnErr result (self.old.room ≡ 0) }
     {
         if self.entries.len() >= (1 << 56) - 1 {
             return Err(Memory);

@@ -21,13 +21,14 @@ pub struct Job {
     pub done: Result<(), Memory>,
 }
 
-// Writes one entry under a turn that was just entered. Its number is drawn once there is room.
+// Writes one entry under a turn that was just entered. Its number is drawn once there is room, so that no number is lost.
 fn put(turns: &Turns<Board>, seat: &mut Seat<Board>, turn: &mut Turn<Board>) -> Result<(), Memory>
     requires seat { (seat.old.table ≡ turns.now) × (1 ≤ seat.old.allowance) × (seat.old.mark ≡ length seat.old.drawn) }
     requires turn { IsGiven seat.old turn.old }
     requires entries { turn.old.value.entries ≡ at_slot seat.old.seen turn.old.slot }
     ensures written { OnOk result ((at : ℕ) × Put at seat.old seat.new turn.old.value.entries turn.new.value.entries) }
     ensures refused { OnErr result ((seat.new ≡ seat.old) × (turn.new.value.entries ≡ turn.old.value.entries)) }
+    ensures full { OnErr result (turn.old.value.room ≡ 0) }
     ensures turn { IsGiven seat.new turn.new × (turn.new.slot ≡ turn.old.slot) }
     ensures notes { Adds (λ e. e.by) (λ e. Some e.at) seat.new.number (fresh seat.new) (at_slot seat.new.seen turn.new.slot) turn.new.value.entries }
     ensures channel { turn.new.value.channel ≡ turn.old.value.channel }
@@ -39,7 +40,7 @@ fn put(turns: &Turns<Board>, seat: &mut Seat<Board>, turn: &mut Turn<Board>) -> 
     Ok(())
 }
 
-/// Writes one entry under a turn of its own.
+/// Writes one entry under a turn of its own, at a number that the seat draws for it. Where memory is wanting it draws no number and writes nothing.
 pub fn write<R: Wait>(
     rt: &R,
     turns: &Turns<Board>,
@@ -83,7 +84,7 @@ fn run_job<R: Wait>(rt: &R, turns: &Turns<Board>, job: &mut Job)
     job.done = write_all(rt, turns, &mut job.seat, slot, times);
 }
 
-/// Runs each job on a thread of its own.
+/// Runs each job on a thread of its own. Of the entries of its own number on the job's board, each seat has then seen those that it had and, behind them, one at each number that it drew, in their order.
 pub fn run_all<R: Threads + Wait + Sync>(rt: &R, turns: &Turns<Board>, jobs: &mut [Job])
     requires { All (λ job. IsReady turns.now job.times job.seat × (job.slot < length turns.now.bases)) jobs.old }
     ensures { (i : ℕ) (d : Job) → i < length jobs.old → Did (slice_index_or jobs.old i d) (slice_index_or jobs.new i d) }

@@ -1,5 +1,4 @@
-use Rattle.std.proofs.Common.{rules, ◌≡◌, ◌∙◌, ◌++◌, ◌∷◌, [], List}
-use Rattle.turn_board.specs.declared.boards.Entry.{Entry}
+use Rattle.std.proofs.Common.{rules}
 use Rattle.turn_board.proofs.Entries.{adds_entry}
 use Rattle.turn_board.proofs.jobs.put.Goals as goal
 
