@@ -1,3 +1,5 @@
 pub mod Offers
 pub mod Served
+pub mod Keys
+pub mod Firsts
 pub mod Examples

@@ -1,6 +1,6 @@
 use Rattle.std.proofs.Common.{length, sym, ap, ◌∙◌}
-use Rattle.std.specs.FinMap as fin
+use Rattle.plain_run.proofs.Keys.{len-keys}
 use Rattle.plain_run.proofs.kept.Kept.live.Goals as goal
 
 pub returns : goal.returns
-returns c = c.len.ensures.len ∙ sym (fin.len-entries _ ∙ ap length c.args.self.now.same)
+returns c = c.len.ensures.len ∙ sym (len-keys _ _ c.args.self.now.live)

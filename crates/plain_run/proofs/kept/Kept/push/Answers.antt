@@ -1,19 +1,30 @@
-use Rattle.std.proofs.Common.{◌≡◌, [], ◌∷◌, ◌++◌, ap, ◌∙◌, rules, ◌≤◌, subst, sym, arith}
+use Rattle.std.proofs.Common.{◌≡◌, ℕ, ◌+◌, ◌≤◌, List, [], ◌∷◌, ◌++◌, length, take, ap, ◌∙◌, rules, subst, sym, arith, length-append}
 use Rattle.std.specs.List.{AllByRecursion}
 use Rattle.std.specs.FinMap as fin
+use Rattle.std.proofs.lemmas.List.{take-append-le}
 use Rattle.log_model.specs.declared.logs.Entry.{Entry}
-use Rattle.log_model.specs.Logs.{rows_of}
-use Rattle.log_model.proofs.LogLaws.{each-append, rows_of-append}
+use Rattle.log_model.specs.Logs.{IsLog, rows_of}
+use Rattle.log_model.proofs.LogLaws.{rows_of-append}
+use Rattle.plain_run.proofs.Firsts.{rises-append}
 use Rattle.plain_run.proofs.kept.Kept.push.Goals as goal
+
+grow : (n : ℕ) (log more : List Entry) (entry : Entry) → more ≡ log ++ entry ∷ [] → n ≤ length log → n ≤ length more
+grow n log more entry grown within =
+    let longer : length more ≡ length log + 1 = ap length grown ∙ length-append log (entry ∷ []) in
+    omega arith
 
 pub invariant_of-self-2 : goal.invariant_of-self-2
 invariant_of-self-2 c =
     let grown : c.push.new.self.items ≡ c.args.self.now.log.items ++ c.args.entry ∷ [] = search rules in
+    let first : take c.args.self.now.taken c.push.new.self.items ≡ take c.args.self.now.taken c.args.self.now.log.items =
+    ap (take c.args.self.now.taken) grown ∙ take-append-le c.args.self.now.taken c.args.self.now.log.items (c.args.entry ∷ []) c.args.self.now.within in
     record {
-      within = subst (AllByRecursion (λ (other : Entry). other.ts.0 ≤ c.args.entry.ts.0)) (sym grown)
-          (each-append (λ (other : Entry). other.ts.0 ≤ c.args.entry.ts.0) c.args.self.now.log.items (c.args.entry ∷ []) c.requires (omega arith, tt));
-      same =
-          ap (λ log. fin.entries (rows_of log)) grown
-          ∙ ap fin.entries (rows_of-append c.args.self.now.log.items (c.args.entry ∷ []))
-          ∙ c.in_ok-apply.ensures.ok (rows_of c.args.self.now.log.items) c.args.self.now.same;
+      rising = subst IsLog (sym grown) (rises-append c.args.self.now.log.items c.args.entry c.args.self.now.rising c.requires);
+      live =
+          ap (λ log. fin.keys (rows_of log)) grown
+          ∙ ap fin.keys (rows_of-append c.args.self.now.log.items (c.args.entry ∷ []))
+          ∙ c.in_ok-mark.ensures.ok (rows_of c.args.self.now.log.items) c.args.self.now.live;
+      within = grow c.args.self.now.taken c.args.self.now.log.items c.push.new.self.items c.args.entry grown c.args.self.now.within;
+      early = subst (AllByRecursion (λ (entry : Entry). entry.ts.0 ≤ c.args.self.now.shown.0)) (sym first) c.args.self.now.early;
+      same = ap (λ log. fin.entries (rows_of log)) first ∙ c.args.self.now.same;
     }
