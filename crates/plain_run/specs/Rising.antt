@@ -1,5 +1,5 @@
 -- That timestamps rise along a log is a proposition.
-use Rattle.std.specs.Prelude.{ℕ, List, [], ◌∷◌}
+use Rattle.std.specs.Prelude.{List, [], ◌∷◌}
 use Rattle.std.specs.List.{AllByRecursion-prop}
 use Rattle.std.specs.Coded.{×_prop, Unit-prop, le_prop}
 use Rattle.log_model.specs.declared.logs.Entry.{Entry}

@@ -65,7 +65,7 @@ impl Kept {
     }
 
     /// One more entry, which is later than all others. An `Err` leaves the log as it was.
-    pub fn push(&mut self, alloc: Global, entry: Entry) -> Result<(), Memory>
+    pub fn push(&mut self, entry: Entry) -> Result<(), Memory>
         requires { AllByRecursion (λ other. other.ts.0 < entry.ts.0) self.old.log.items }
         ensures ok { OnOk result (self.new.log.items ≡ self.old.log.items ++ entry ∷ []) }
         ensures err { OnErr result (self.new.log.items ≡ self.old.log.items) }
@@ -77,7 +77,8 @@ impl Kept {
     }
 
     /// The hits of a search at a timestamp: from the rows of the snapshot, which first takes in the
-    /// entries up to the timestamp. Where the snapshot is later, which it is in no run, from the log.
+    /// entries up to the timestamp. Where the snapshot is later, as it can be behind a search that
+    /// ended for want of memory, from the log. An `Err` leaves the log as it was.
     pub fn scan(
         &mut self,
         alloc: Global,
@@ -95,7 +96,13 @@ impl Kept {
             return scan_at(alloc, self.log.as_slice(), ts, plan, query);
         }
         self.shown = ts;
-        take_in(alloc, self.log.as_slice(), ts, &mut self.rows, &mut self.taken)?;
+        take_in(
+            alloc,
+            self.log.as_slice(),
+            ts,
+            &mut self.rows,
+            &mut self.taken,
+        )?;
         nearest(alloc, &self.rows, plan, query)
     }
 }

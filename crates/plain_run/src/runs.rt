@@ -23,8 +23,8 @@ use request_lines::{Ask, Request};
 use row_types::{List, Memory};
 use std::alloc::Global;
 
-/// A run over the requests of one caller. It keeps its log, the next number, the last tick, and the
-/// timestamp of the caller's last write.
+/// A run over the requests of one caller. It keeps its log with the rows of the last snapshot, the next
+/// number, the last tick, and the timestamp of the caller's last write.
 #[derive(Debug, Drop)]
 pub struct PlainRun {
     kept: Kept,
@@ -74,7 +74,7 @@ impl PlainRun {
     {
         let now = self.lifted(moment);
         match request.what {
-            Ask::Write(write) => self.write(alloc, now, write),
+            Ask::Write(write) => self.write(now, write),
             Ask::Search {
                 query,
                 level,
@@ -115,7 +115,7 @@ impl PlainRun {
     }
 
     /// Writes at `now`.
-    fn write(&mut self, alloc: Global, now: u64, write: Write) -> Result<Answer, Memory>
+    fn write(&mut self, now: u64, write: Write) -> Result<Answer, Memory>
         requires later { (plain_of self.old).clock ≤ now }
         requires room { now + 3 < 2 ^ 64 }
         ensures serves { IfOk result (λ answer. (start : Start) → Serves start (plain_of self.old) (alone (asks.Write write)) answer (plain_of self.new)) }
@@ -126,7 +126,7 @@ impl PlainRun {
     {
         let what = told(&write, self.kept.holds(write.key()));
         let ts = Timestamp(now);
-        self.kept.push(alloc, Entry { ts, write })?;
+        self.kept.push(Entry { ts, write })?;
         self.clock = now + 1;
         self.mine = now;
         Ok(Answer::Wrote(WriteReply { ts, what }))

@@ -88,11 +88,15 @@ fn search(rt: &impl Abort, alloc: Global, level: Level) -> Result<Request, Memor
     })
 }
 
-fn near(key: i64) -> Hit {
+fn hit(bits: u32, key: i64) -> Hit {
     Hit {
-        distance: Distance::Hamming(0),
+        distance: Distance::Hamming(bits),
         key: Key(key),
     }
+}
+
+fn near(key: i64) -> Hit {
+    hit(0, key)
 }
 
 #[test]
@@ -110,6 +114,64 @@ fn a_search_of_the_last_tick_leaves_later_writes_out(rt: HostRuntime) -> Result<
             caller: 0,
             what: Ask::Write(write),
         };
+        run.serve(alloc, &collection, request, 0)?;
+        let request = search(&rt, alloc, level)?;
+        match run.serve(alloc, &collection, request, 0)? {
+            Answer::Hits { ts: at, hits, .. } => {
+                assert_eq!(&rt; at, Timestamp(ts));
+                assert_eq!(&rt; hits.as_slice(), want);
+            }
+            _ => assert!(&rt; false),
+        }
+    }
+    Ok(())
+}
+
+/// What comes before a search; a write is of the key 7.
+#[derive(Clone, Copy)]
+enum Change {
+    Set(u8),
+    Clear,
+    Tick,
+}
+
+fn asked(rt: &impl Abort, alloc: Global, change: Change) -> Result<Request, Memory>
+    ensures fits { IfOk result (λ request. FitsAsk 8 request.what) }
+    ensures caller { IfOk result (λ request. request.caller ≡ 0) }
+{
+    let what = match change {
+        Change::Set(byte) => Ask::Write(Write::Upsert(row(rt, alloc, 7, byte)?)),
+        Change::Clear => Ask::Write(Write::Delete(Key(7))),
+        Change::Tick => Ask::Tick,
+    };
+    Ok(Request { caller: 0, what })
+}
+
+#[test]
+fn a_snapshot_stays_while_its_key_is_written_and_moves_at_a_tick(
+    rt: HostRuntime,
+) -> Result<(), Memory> {
+    let alloc = rt.alloc();
+    let collection = collection(alloc);
+    let mut run = PlainRun::new(alloc);
+    for (change, level, ts, want) in [
+        (Change::Set(0x0f), Level::Eventually, 0u64, [].as_slice()),
+        (Change::Tick, Level::Eventually, 3, [hit(0, 7)].as_slice()),
+        (
+            Change::Set(0xff),
+            Level::Eventually,
+            3,
+            [hit(0, 7)].as_slice(),
+        ),
+        (Change::Clear, Level::Eventually, 3, [hit(0, 7)].as_slice()),
+        (Change::Tick, Level::Eventually, 9, [].as_slice()),
+        (Change::Set(0xff), Level::Eventually, 9, [].as_slice()),
+        (Change::Tick, Level::Eventually, 13, [hit(4, 7)].as_slice()),
+        (Change::Clear, Level::Eventually, 13, [hit(4, 7)].as_slice()),
+        (Change::Set(0x0f), Level::Strong, 19, [hit(0, 7)].as_slice()),
+        (Change::Clear, Level::Eventually, 19, [hit(0, 7)].as_slice()),
+    ] {
+        let request = asked(&rt, alloc, change)?;
         run.serve(alloc, &collection, request, 0)?;
         let request = search(&rt, alloc, level)?;
         match run.serve(alloc, &collection, request, 0)? {

@@ -1,7 +1,6 @@
-use Rattle.std.proofs.Common.{◌≡◌, ◌≤◌, [], take, drop, refl, sym, ap, subst, ◌∙◌, arith}
+use Rattle.std.proofs.Common.{◌≡◌, ◌≤◌, take, drop, refl, sym, subst}
 use Rattle.std.specs.List.{AllByRecursion}
 use Rattle.std.specs.FinMap as fin
-use Rattle.std.proofs.lemmas.List.{drop_all}
 use Rattle.log_model.specs.declared.logs.Entry.{Entry}
 use Rattle.log_model.specs.Logs.{IsAbove, rows_of}
 use Rattle.plain_run.proofs.Firsts.{late_behind, early_more, rows_more}

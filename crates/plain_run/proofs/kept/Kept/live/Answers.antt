@@ -1,4 +1,4 @@
-use Rattle.std.proofs.Common.{length, sym, ap, ◌∙◌}
+use Rattle.std.proofs.Common.{sym, ◌∙◌}
 use Rattle.plain_run.proofs.Keys.{len-keys}
 use Rattle.plain_run.proofs.kept.Kept.live.Goals as goal
 
