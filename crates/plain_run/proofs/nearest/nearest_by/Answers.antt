@@ -4,10 +4,10 @@ use Rattle.std.specs.BTreeMap.{values}
 use Rattle.row_types.specs.Hits.{least}
 use Rattle.log_model.specs.Scans.{hit_of}
 use Rattle.plain_run.proofs.Offers.{offered}
-use Rattle.plain_run.proofs.nearest.nearest.Goals as goal
+use Rattle.plain_run.proofs.nearest.nearest_by.Goals as goal
 
 pub rows-preserved : goal.rows-preserved
-rows-preserved c =
+rows-preserved g c =
     let next : c.rows.row-iterator ≡ c.in-Some.row.now ∷ c.next.new.self = search rules in
     record {
       k = c.offer.ensures.k ∙ c.rows.invariant.k;
