@@ -73,6 +73,31 @@ fn a_copied_row_has_the_same_parts(rt: HostRuntime) -> Result<(), Fail> {
     Ok(())
 }
 
+#[test]
+fn a_copied_text_is_the_same_text(rt: HostRuntime) -> Result<(), Fail> {
+    let text = Text::copied(rt.alloc(), "0f")?;
+    let copy = text.copy(rt.alloc())?;
+    assert_eq!(rt; copy.as_str(), "0f");
+    assert_eq!(rt; text.as_str(), "0f");
+    Ok(())
+}
+
+#[test]
+fn a_copied_field_has_the_same_value(rt: HostRuntime) -> Result<(), Fail> {
+    let alloc = rt.alloc();
+    let number = Field::Int(-3).copy(alloc)?;
+    let truth = Field::Bool(true).copy(alloc)?;
+    let text = Field::Text(Text::copied(alloc, "0f")?).copy(alloc)?;
+    let same = match (&number, &truth, &text) {
+        (Field::Int(number), Field::Bool(truth), Field::Text(text)) => {
+            *number == -3 && *truth && text.is("0f")
+        }
+        _ => false,
+    };
+    assert!(rt; same);
+    Ok(())
+}
+
 fn a_schema(alloc: Global) -> Result<Schema, Memory> {
     let mut columns = Vec::new(alloc);
     columns.push((Text::copied(alloc, "n")?, Kind::Bool))?;
