@@ -67,7 +67,8 @@ fn count_of(entries: &[Entry], by: u64) -> usize {
     entries.iter().filter(|entry| entry.by == by).count()
 }
 
-// Stays inside of a turn until both are in one, or for 100,000,000 looks.
+// Stays inside of a turn of an empty board until both are in one, or for 100,000,000 looks. Tells
+// whether the turn is of the slot and both were in one.
 fn stay<R: Wait>(
     rt: &R,
     turns: &Turns<Board>,
@@ -79,10 +80,11 @@ fn stay<R: Wait>(
     requires slot { slot < length turns.now.bases }
 {
     let turn = turns.enter(rt, seat, slot);
+    let own = turn.slot() == slot && turn.value().entries().is_empty();
     inside.fetch_add(1, Ordering::SeqCst);
     let met = sees_two(inside);
     turns.leave(seat, turn);
-    met
+    own && met
 }
 
 fn sees_two(inside: &AtomicU64) -> bool {
