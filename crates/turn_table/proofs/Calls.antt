@@ -6,7 +6,7 @@ use Rattle.turn_lock.specs.Client.{Moves, MovesOut, Gives, Forks, Merges, AllHom
 use Rattle.turn_lock.specs.Passes.{Pass, IsStill}
 use Rattle.turn_lock.specs.declared.tickets.Ticket.{Ticket}
 use Rattle.turn_facts.specs.Counts.{count, Among}
-use Rattle.turn_facts.specs.Notes.{Adds}
+use Rattle.turn_facts.specs.Notes.{of, times, Adds}
 use Rattle.turn_facts.specs.Prefixes.{IsAt}
 use Rattle.turn_facts.proofs.Counts.{count-here}
 use Rattle.turn_facts.proofs.Notes.{adds_starts}
@@ -117,7 +117,7 @@ module _ {S N B : Type 0} (journal : S → List N) (base : S → B) (number : N 
   closes_call p s n e i rest all = ends_home journal base number time p.id (known p) (has_all p s n e i all) (inside_is p s n [] e i rest)
 
   pub closed : (p : Pass S (Know N B)) (s : SeatView N B) (n : ℕ) (ws : List ℕ) (xs : List S) → seat_view p ≡ s → IsSeat p n → s.allowance + (length s.drawn + length s.joined) ≡ 2 ^ 40 → Ended (Kept journal base number time) p.id (known p) ws xs
-      → (map journal xs ≡ s.seen) × (map base xs ≡ s.table.bases) × (s.table.first ≤ clock ws) × ((x : ℕ) → Among x s.drawn → x < clock ws) × (clock ws ≤ 2 ^ 40 + max s.table.first (2 ^ 63))
+      → (map journal xs ≡ s.seen) × (map base xs ≡ s.table.bases) × (s.table.first ≤ clock ws) × ((x : ℕ) → Among x s.drawn → x < clock ws) × (clock ws ≤ 2 ^ 40 + max s.table.first (2 ^ 63)) × ((k m : ℕ) → k < length s.seen → count m (s.number ∷ s.joined) ≡ 0 → of number m (at_slot s.seen k) ≡ of number m (at_slot s.origin k)) × ((k x : ℕ) → Among x (times time (at_slot s.seen k)) → x < clock ws)
   closed p s n ws xs e i all end =
-      let d : Ends journal base (known p) ws xs = ends journal base number time p.id (known p) ws xs i.live (has_all p s n e i all) end in
-      subst (λ (x : SeatView N B). (map journal xs ≡ x.seen) × (map base xs ≡ x.table.bases) × (x.table.first ≤ clock ws) × ((y : ℕ) → Among y x.drawn → y < clock ws) × (clock ws ≤ 2 ^ 40 + max x.table.first (2 ^ 63))) e (d.journals, d.bases, d.first, d.drawn, d.most)
+      let d : Ends journal base number time (known p) ws xs = ends journal base number time p.id (known p) ws xs i.live (has_all p s n e i all) end in
+      subst (λ (x : SeatView N B). (map journal xs ≡ x.seen) × (map base xs ≡ x.table.bases) × (x.table.first ≤ clock ws) × ((y : ℕ) → Among y x.drawn → y < clock ws) × (clock ws ≤ 2 ^ 40 + max x.table.first (2 ^ 63)) × ((k m : ℕ) → k < length x.seen → count m (x.number ∷ x.joined) ≡ 0 → of number m (at_slot x.seen k) ≡ of number m (at_slot x.origin k)) × ((k y : ℕ) → Among y (times time (at_slot x.seen k)) → y < clock ws)) e (d.journals, d.bases, d.first, d.drawn, d.most, (λ k m h z. d.whose k m h (ap (count m) (numbers_are p n i) ∙ z)), d.stamped)

@@ -15,13 +15,37 @@ use Rattle.turn_table.specs.Knowledge.{at_slot, own, numbers, part, counted, num
 use Rattle.turn_table.specs.Rule.{Truth, SeesAll, Owns, OwnsAll, Numbered, Grew, IsGrown, next_seat, grown_truth}
 use Rattle.turn_table.proofs.Sharing.{at-longer_each}
 
-count_three : (n : ℕ) (a b c : List ℕ) → count n (a ++ (b ++ c)) ≡ count n a + (count n b + count n c)
+pub count_three : (n : ℕ) (a b c : List ℕ) → count n (a ++ (b ++ c)) ≡ count n a + (count n b + count n c)
 count_three n a b c = let p : count n (a ++ (b ++ c)) ≡ count n a + count n (b ++ c) = count-append n a (b ++ c) in let q : count n (b ++ c) ≡ count n b + count n c = count-append n b c in omega arith
 
 each_of_two : {A : Type 0} (P : A → Type 0) (a b : A) → P a → P b → (i : ℕ) (c : A) → IsAt (a ∷ b ∷ []) i c → P c
 each_of_two P a b p q zero c e = subst P (some-injective a c e) p
 each_of_two P a b p q (suc zero) c e = subst P (some-injective b c e) q
 each_of_two P a b p q (suc (suc i)) c e = absurd (some-ne-none c (sym e))
+
+module _ {N B : Type 0} where
+  pub count-split : (n : ℕ) (v : Know N B) → v.live ≡ true → v.spare ≡ get_or v.spare 0 0 ∷ drop 1 v.spare → count n (numbers (stayed v)) + count n (numbers (given v)) ≡ count n (numbers v)
+  count-split n v live sp =
+      let x : ℕ = get_or v.spare 0 0 in
+      let a : count n (numbers (stayed v)) ≡ count n (own v) + (count n (drop 1 v.spare) + count n v.joined) = count_three n (own v) (drop 1 v.spare) v.joined in
+      let b : count n (numbers v) ≡ count n (own v) + (count n v.spare + count n v.joined) = count_three n (own v) v.spare v.joined in
+      let d : count n v.spare ≡ count n (x ∷ drop 1 v.spare) = ap (count n) sp in
+      let own_is : own (given v) ≡ x ∷ [] = ap (λ (b : Bool). cond b (x ∷ []) []) live in
+      let c : count n (numbers (given v)) ≡ count n (own (given v)) + (count n [] + count n []) = count_three n (own (given v)) [] [] in
+      let z : count n [] ≡ 0 = count-nil n in
+      let f : count n (own (given v)) ≡ count n (x ∷ []) = ap (count n) own_is in
+      let o : count n (x ∷ drop 1 v.spare) ≡ count n (x ∷ []) + count n (drop 1 v.spare) = count-append n (x ∷ []) (drop 1 v.spare) in
+      omega arith
+
+  -- a seat takes in what another has
+  pub count-joined : (n : ℕ) (v w : Know N B) → count n (numbers (joined v w)) ≡ count n (numbers v) + count n (numbers w)
+  count-joined n v w =
+      let a : count n (numbers (joined v w)) ≡ count n (own v) + (count n (v.spare ++ w.spare) + count n (v.joined ++ (own w ++ w.joined))) = count_three n (own v) (v.spare ++ w.spare) (v.joined ++ (own w ++ w.joined)) in
+      let b : count n (v.spare ++ w.spare) ≡ count n v.spare + count n w.spare = count-append n v.spare w.spare in
+      let c : count n (v.joined ++ (own w ++ w.joined)) ≡ count n v.joined + (count n (own w) + count n w.joined) = count_three n v.joined (own w) w.joined in
+      let d : count n (numbers v) ≡ count n (own v) + (count n v.spare + count n v.joined) = count_three n (own v) v.spare v.joined in
+      let f : count n (numbers w) ≡ count n (own w) + (count n w.spare + count n w.joined) = count_three n (own w) w.spare w.joined in
+      omega arith
 
 module _ {N B : Type 0} (number : N → ℕ) where
   pub numbered_kept : {t : Truth N B} {ws : List ℕ} {vs : List (Know N B)} (ws' : List ℕ) (id : ℕ) (v w : Know N B) → Numbered number t ws vs → IsAt vs id v → next_seat ws' ≡ next_seat ws
@@ -112,16 +136,6 @@ module _ {N B : Type 0} (number : N → ℕ) where
             record { mine = λ i n m. let q : count n (numbers (stayed v)) + count n (numbers (given v)) ≡ count n (numbers v) = sum n in ov.mine i n (omega arith); fresh = ov.fresh })
             record { mine = λ i n m. let q : count n (numbers (stayed v)) + count n (numbers (given v)) ≡ count n (numbers v) = sum n in ov.mine i n (omega arith); fresh = ov.fresh };
       }
-
-  -- a seat takes in what another has
-  count-joined : (n : ℕ) (v w : Know N B) → count n (numbers (joined v w)) ≡ count n (numbers v) + count n (numbers w)
-  count-joined n v w =
-      let a : count n (numbers (joined v w)) ≡ count n (own v) + (count n (v.spare ++ w.spare) + count n (v.joined ++ (own w ++ w.joined))) = count_three n (own v) (v.spare ++ w.spare) (v.joined ++ (own w ++ w.joined)) in
-      let b : count n (v.spare ++ w.spare) ≡ count n v.spare + count n w.spare = count-append n v.spare w.spare in
-      let c : count n (v.joined ++ (own w ++ w.joined)) ≡ count n v.joined + (count n (own w) + count n w.joined) = count_three n v.joined (own w) w.joined in
-      let d : count n (numbers v) ≡ count n (own v) + (count n v.spare + count n v.joined) = count_three n (own v) v.spare v.joined in
-      let f : count n (numbers w) ≡ count n (own w) + (count n w.spare + count n w.joined) = count_three n (own w) w.spare w.joined in
-      omega arith
 
   pub numbered_joins : {t : Truth N B} {ws : List ℕ} {vs : List (Know N B)} (slots : ℕ) (id other : ℕ) (v w : Know N B) → Numbered number t ws vs → IsAt vs id v → other ≢ id → IsAt (set vs id (joined v w)) other w → v.live ≡ true → w.live ≡ true → SeesAll t slots v → SeesAll t slots w
       → Numbered number t ws (set (set vs id (joined v w)) other spent) × IsGrown number (joined v w).seen (joined v w).parts

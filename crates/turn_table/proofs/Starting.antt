@@ -1,5 +1,5 @@
 -- The rule holds of a table that begins.
-use Rattle.std.proofs.Common.{◌≡◌, ℕ, zero, suc, ◌+◌, ◌^◌, ◌<◌, ◌≤◌, ◌≢◌, List, [], ◌∷◌, length, map, get_or, Option, Some, refl, ap, sym, ◌∙◌, subst, ⊎_elim, arith}
+use Rattle.std.proofs.Common.{◌≡◌, ℕ, zero, suc, ◌+◌, ◌^◌, ◌<◌, ◌≤◌, ◌≢◌, true, List, [], ◌∷◌, length, map, get_or, Option, Some, refl, ap, sym, ◌∙◌, subst, ⊎_elim, arith}
 use Rattle.std.proofs.lemmas.List.{length-map}
 use mathlib.Core.Option.{some, some-injective, some-ne-none}
 use lib.ListN.{get_elem?}
@@ -47,7 +47,7 @@ module _ {S N B : Type 0} (journal : S → List N) (base : S → B) (number : N 
   opens first xs low above =
       let js : List (List N) = map journal xs in
       let v : Know N B = opening js (map base xs) first in
-      let t : Truth N B = record { journals = at_slot js; bases = map base xs; first = first } in
+      let t : Truth N B = record { journals = at_slot js; bases = map base xs; origin = js; first = first } in
       let many : length (all_home xs) ≡ length xs = length-map xs (λ (x : S). some (Some x)) in
       let sv : SeesAll t (length (all_home xs)) v = record {
         long = λ l. length-map xs journal ∙ sym many;
@@ -71,6 +71,12 @@ module _ {S N B : Type 0} (journal : S → List N) (base : S → B) (number : N 
               (λ (p : 0 ≢ n). let b : count n (0 ∷ []) ≡ count n [] = count-else n 0 [] p in let z : count n [] ≡ 0 = count-nil n in omega arith) (same_or 0 n);
           unused = λ n h. total_one (λ (u : Know N B). count n (numbers u)) v ∙ count-else n 0 [] (λ p. omega arith) ∙ count-nil n;
           views = only (OwnsAll number t 1) v ov;
+        };
+        whose = record {
+          told = only (λ (u : Know N B). u.live ≡ true → u.origin ≡ js) v (λ l. refl);
+          used = λ n h. let a : total (λ (u : Know N B). count n (numbers u)) (v ∷ []) ≡ count n (0 ∷ []) = total_one (λ (u : Know N B). count n (numbers u)) v in let p : 0 ≡ n = omega arith in
+              let b : count n (0 ∷ []) ≡ 1 + count n [] = subst (λ (i : ℕ). count n (i ∷ []) ≡ 1 + count n []) (sym p) (count-here n []) in omega arith;
+          strange = λ k n h. refl;
         };
         drawn = record {
           once = λ x. let a : total (λ (u : Know N B). count x u.drawn) (v ∷ []) ≡ count x [] = total_one (λ (u : Know N B). count x u.drawn) v in let z : count x [] ≡ 0 = count-nil x in omega arith;

@@ -11,15 +11,16 @@ use Rattle.turn_table.specs.declared.knows.Know.{Know}
 use Rattle.turn_table.specs.declared.knows.Part.{Part}
 use Rattle.turn_table.specs.Knowledge.{at_slot, numbers, weight, allowance}
 
--- what no word holds: the journal of each slot, the bases, and the least number that was to be drawn
+-- what no word holds: the journal of each slot, the bases, the journals at the start, and the least number that was to be drawn
 pub record Truth (N B : Type 0) : Type 0 where
   pub journals : ℕ → List N
   pub bases : List B
+  pub origin : List (List N)
   pub first : ℕ
 
 -- the same, but that the journal of the slot k is l
 abbrev pub grown_truth : {N B : Type 0} → Truth N B → ℕ → List N → Truth N B
-grown_truth t k l = record { journals = put t.journals k l; bases = t.bases; first = t.first }
+grown_truth t k l = record { journals = put t.journals k l; bases = t.bases; origin = t.origin; first = t.first }
 
 -- how many values are out of a slot
 abbrev pub gone : {S : Type 0} → maybe.Option (maybe.Option (Option S)) → ℕ
@@ -79,6 +80,12 @@ module _ {N B : Type 0} where
     pub unused : (n : ℕ) → next_seat ws ≤ n → total (λ (v : Know N B). count n (numbers v)) vs ≡ 0
     pub views : (j : ℕ) (v : Know N B) → IsAt vs j v → OwnsAll number t (next_seat ws) v
 
+  -- every number that was given is at some seat, and of the numbers that no seat has yet no note was added since the table began
+  pub record Whose (number : N → ℕ) (t : Truth N B) (ws : List ℕ) (vs : List (Know N B)) : Type 0 where
+    pub told : (j : ℕ) (v : Know N B) → IsAt vs j v → v.live ≡ true → v.origin ≡ t.origin
+    pub used : (n : ℕ) → n < next_seat ws → 1 ≤ total (λ (v : Know N B). count n (numbers v)) vs
+    pub strange : (k n : ℕ) → next_seat ws ≤ n → of number n (t.journals k) ≡ of number n (at_slot t.origin k)
+
   -- no number was drawn twice, and the clock is above all that were drawn, seen or lifted to
   pub record Drawn (time : N → Option ℕ) (t : Truth N B) (ws : List ℕ) (vs : List (Know N B)) : Type 0 where
     pub once : (x : ℕ) → total (λ (v : Know N B). count x v.drawn) vs ≤ 1
@@ -103,6 +110,7 @@ module _ {N B : Type 0} where
     pub truth : Truth N B
     pub shown : Shown journal base truth hs vs
     pub numbers : Numbered number truth ws vs
+    pub whose : Whose number truth ws vs
     pub drawn : Drawn time truth ws vs
     pub sums : Summed truth ws vs
     pub lengths : Measured truth ws (length hs)

@@ -27,3 +27,11 @@ pub returns-clause-most : goal.returns-clause-most
 returns-clause-most g c =
     let h = (closed g.V.Journalled.journal g.V.Journalled.base g.V.Journalled.number_of g.V.Journalled.time_of c.seat.inside.pass c.args.seat c.seat.inside.number c.close.ensures.last.0 c.close.result.0.items c.seat.view_is c.seat.invariant c.requires.all c.close.ensures.last.1).4 in
     subst (λ (t : Table g.row.V-Base.Denot). c.close.result.1 ≤ 2 ^ 40 + max t.first (2 ^ 63)) c.requires.table (subst (λ (n : ℕ). n ≤ 2 ^ 40 + max c.args.seat.table.first (2 ^ 63)) (sym c.close.ensures.last.2) h)
+
+pub returns-clause-whose : goal.returns-clause-whose
+returns-clause-whose g c = (closed g.V.Journalled.journal g.V.Journalled.base g.V.Journalled.number_of g.V.Journalled.time_of c.seat.inside.pass c.args.seat c.seat.inside.number c.close.ensures.last.0 c.close.result.0.items c.seat.view_is c.seat.invariant c.requires.all c.close.ensures.last.1).5
+
+pub returns-clause-times : goal.returns-clause-times
+returns-clause-times g c = λ k x a.
+    let h = (closed g.V.Journalled.journal g.V.Journalled.base g.V.Journalled.number_of g.V.Journalled.time_of c.seat.inside.pass c.args.seat c.seat.inside.number c.close.ensures.last.0 c.close.result.0.items c.seat.view_is c.seat.invariant c.requires.all c.close.ensures.last.1).6 in
+    subst (λ (n : ℕ). x < n) (sym c.close.ensures.last.2) (h k x a)
