@@ -2,7 +2,6 @@ pub mod Calls
 pub mod Drawing
 pub mod Ending
 pub mod Measuring
-pub mod Naming
 pub mod Owning
 pub mod Seeing
 pub mod Sharing

@@ -16,8 +16,7 @@ use Rattle.turn_table.specs.Rule.{Truth, IsGrown, SeesAll, Kept, grown_truth, cl
 use Rattle.turn_table.specs.Tells.{Took, Drew, Numbers, Settled}
 use Rattle.turn_table.proofs.Drawing.{drawn_kept, drawn_counts, drawn_draws, drawn_splits, drawn_joins}
 use Rattle.turn_table.proofs.Measuring.{measured_kept, measured_counts}
-use Rattle.turn_table.proofs.Naming.{whose_kept, whose_counts, whose_numbers, whose_splits, whose_joins}
-use Rattle.turn_table.proofs.Owning.{numbered_kept, owns_seen, numbered_counts, numbered_numbers, numbered_splits, numbered_joins}
+use Rattle.turn_table.proofs.Owning.{numbered_once, numbered_kept, owns_seen, numbered_counts, numbered_numbers, numbered_splits, numbered_joins}
 use Rattle.turn_table.proofs.Seeing.{shown_kept, shown_enters, shown_counts, shown_leaves}
 use Rattle.turn_table.proofs.Sharing.{shown_splits, shown_joins}
 use Rattle.turn_table.proofs.Summing.{summed_kept, summed_draws, summed_lifts, summed_numbers, summed_splits, summed_joins, clock_low}
@@ -41,7 +40,6 @@ module _ {S N B : Type 0} (journal : S → List N) (base : S → B) (number : N 
           truth = t;
           shown = shown_enters journal base id v k x s.shown e live h;
           numbers = numbered_kept number ws id v w s.numbers e refl (λ o. owns_seen number k (journal x) hx.0 here o) (λ n. refl);
-          whose = whose_kept number ws id v w s.whose e refl (λ l. l) refl (λ n. refl);
           drawn = drawn_kept time ws id v w s.drawn e (omega arith) (λ n. refl) (s.drawn.least id v e);
           sums = summed_kept ws id v w s.sums e refl refl refl refl;
           lengths = subst (λ (n : ℕ). Measured t ws n) (sym (length-set hs k none)) s.lengths;
@@ -79,7 +77,6 @@ module _ {S N B : Type 0} (journal : S → List N) (base : S → B) (number : N 
           truth = t';
           shown = shown_counts journal base id v k l s.shown e live out ins starts;
           numbers = numbered_counts number ws' id v k l s.numbers e live next_same here (λ m ne. adds_others number time m adds ne ∙ ap (of number m) all_seen);
-          whose = whose_counts number ws' id v k l s.whose s.numbers e live next_same (λ m ne. adds_others number time m adds ne ∙ ap (of number m) all_seen);
           drawn = drawn_kept time ws' id v w d e (omega arith) (λ n. refl) (let a : v.least ≤ clock ws = s.drawn.least id v e in omega arith);
           sums = summed_kept {t = t'} {ws = ws} ws' id v w record { weights = s.sums.weights; room = s.sums.room; few = s.sums.few; low = s.sums.low } e clock_same next_same refl refl;
           lengths = measured_counts k l ((word + more) % 2 ^ 64) below new_is s.lengths;
@@ -97,7 +94,6 @@ module _ {S N B : Type 0} (journal : S → List N) (base : S → B) (number : N 
           truth = s.truth;
           shown = shown_leaves journal base id v k y s.shown e out ins j_is b_is;
           numbers = numbered_kept number ws id v w s.numbers e refl (λ o. o) (λ n. refl);
-          whose = whose_kept number ws id v w s.whose e refl (λ l. l) refl (λ n. refl);
           drawn = drawn_kept time ws id v w s.drawn e (omega arith) (λ n. refl) (s.drawn.least id v e);
           sums = summed_kept ws id v w s.sums e refl refl refl refl;
           lengths = subst (λ (n : ℕ). Measured s.truth ws n) (sym (length-set hs k (some (Some y)))) s.lengths;
@@ -122,7 +118,6 @@ module _ {S N B : Type 0} (journal : S → List N) (base : S → B) (number : N 
           truth = t;
           shown = shown_kept journal base id v w s.shown e (λ o. o) (λ k o. o) (λ k. refl);
           numbers = numbered_kept number ws' id v w s.numbers e next_same (λ o. o) (λ n. refl);
-          whose = whose_kept number ws' id v w s.whose e next_same (λ l. l) refl (λ n. refl);
           drawn = drawn_draws time ws' id v s.drawn e now;
           sums = summed_draws ws' id v x s.sums e one now next_same;
           lengths = measured_kept 0 ((x + 1) % 2 ^ 64) (omega arith) s.lengths;
@@ -130,7 +125,7 @@ module _ {S N B : Type 0} (journal : S → List N) (base : S → B) (number : N 
         },
         record {
           is = refl;
-          first = let a : t.first ≤ x = s.drawn.first in let b : v.first ≡ t.first = (sv.told live).1 in omega arith;
+          first = let a : t.first ≤ x = s.drawn.first in let b : v.first ≡ t.first = (sv.told live).2 in omega arith;
           least = s.drawn.least id v e;
           drawn = λ y a. ⊎_elim (λ (h : y < x). h) (λ (h : x ≤ y). let f : Know N B → ℕ = λ u. count y u.drawn in let z : total f vs ≡ 0 = s.drawn.below y h in let b : f v ≤ total f vs = total_least f vs id v e in absurd (omega arith)) (cases_lt y x);
           seen = λ k y a. s.drawn.times k y (times_starts number time y (sv.front k) a);
@@ -150,7 +145,6 @@ module _ {S N B : Type 0} (journal : S → List N) (base : S → B) (number : N 
           truth = s.truth;
           shown = shown_kept journal base id v w s.shown e (λ o. o) (λ k o. o) (λ k. refl);
           numbers = numbered_kept number ws' id v w s.numbers e next_same (λ o. o) (λ n. refl);
-          whose = whose_kept number ws' id v w s.whose e next_same (λ l. l) refl (λ n. refl);
           drawn = drawn_kept time ws' id v w s.drawn e (omega arith) (λ n. refl) (let a : v.least ≤ x = s.drawn.least id v e in omega arith);
           sums = summed_lifts ws' id v least s.sums e live low now next_same;
           lengths = measured_kept 0 (max x least) (omega arith) s.lengths;
@@ -173,7 +167,6 @@ module _ {S N B : Type 0} (journal : S → List N) (base : S → B) (number : N 
           truth = s.truth;
           shown = shown_kept journal base id v w s.shown e (λ o. o) (λ k o. o) (λ k. refl);
           numbers = numbered_numbers number ws' id v s.numbers e live now;
-          whose = whose_numbers number ws' id v s.whose e now;
           drawn = drawn_kept time ws' id v w s.drawn e (omega arith) (λ n. refl) (let a : v.least ≤ clock ws = s.drawn.least id v e in omega arith);
           sums = summed_numbers ws' id v x s.sums e one clock_same now;
           lengths = measured_kept 1 ((x + 1) % 2 ^ 64) (omega arith) s.lengths;
@@ -198,7 +191,6 @@ module _ {S N B : Type 0} (journal : S → List N) (base : S → B) (number : N 
           truth = s.truth;
           shown = shown_kept journal base id v w s.shown e (λ o. o) (λ k o. o) (λ k. refl);
           numbers = numbered_kept number ws' id v w s.numbers e next_same (λ o. o) (λ n. refl);
-          whose = whose_kept number ws' id v w s.whose e next_same (λ l. l) refl (λ n. refl);
           drawn = drawn_kept time ws' id v w s.drawn e (omega arith) (λ n. refl) (let a : v.least ≤ clock ws = s.drawn.least id v e in omega arith);
           sums = summed_kept ws' id v w s.sums e clock_same next_same refl refl;
           lengths = measured_kept 0 (get_or ws 0 0) (omega arith) s.lengths;
@@ -220,7 +212,6 @@ module _ {S N B : Type 0} (journal : S → List N) (base : S → B) (number : N 
           truth = s.truth;
           shown = shown_kept journal base id v w s.shown e (λ o. o) (λ k o. o) (λ k. refl);
           numbers = numbered_kept number ws' id v w s.numbers e next_same (λ o. o) (λ n. refl);
-          whose = whose_kept number ws' id v w s.whose e next_same (λ l. l) refl (λ n. refl);
           drawn = drawn_kept time ws' id v w s.drawn e (omega arith) (λ n. refl) (let a : v.least ≤ clock ws = s.drawn.least id v e in omega arith);
           sums = summed_kept ws' id v w s.sums e clock_same next_same refl refl;
           lengths = measured_kept 0 (get_or ws 0 0) (omega arith) s.lengths;
@@ -230,7 +221,7 @@ module _ {S N B : Type 0} (journal : S → List N) (base : S → B) (number : N 
           is = refl;
           grown = s.grown id v e;
           once = λ x. let f : Know N B → ℕ = λ u. count x u.drawn in let a : f v ≤ total f vs = total_least f vs id v e in let b : total f vs ≤ 1 = s.drawn.once x in omega arith;
-          apart = λ n. let f : Know N B → ℕ = λ u. count n (numbers u) in let a : f v ≤ total f vs = total_least f vs id v e in let b : total f vs ≤ 1 = s.numbers.once n in omega arith;
+          apart = λ n. let f : Know N B → ℕ = λ u. count n (numbers u) in let a : f v ≤ total f vs = total_least f vs id v e in let b : total f vs ≤ 1 = numbered_once number s.numbers n in omega arith;
         },
       )
 
@@ -239,7 +230,6 @@ module _ {S N B : Type 0} (journal : S → List N) (base : S → B) (number : N 
     truth = s.truth;
     shown = shown_splits journal base id v s.shown e;
     numbers = numbered_splits number id v s.numbers e live sp;
-    whose = whose_splits number id v s.whose e live sp;
     drawn = drawn_splits time id v s.drawn e;
     sums = summed_splits id v s.sums e live gift sp;
     lengths = s.lengths;
@@ -254,7 +244,6 @@ module _ {S N B : Type 0} (journal : S → List N) (base : S → B) (number : N 
         truth = s.truth;
         shown = shown_joins journal base id other v w s.shown e ne e' lv lw iw;
         numbers = n.0;
-        whose = whose_joins number id other v w s.whose e ne e' lv;
         drawn = drawn_joins time id other v w s.drawn e ne e';
         sums = summed_joins id other v w s.sums e e' lv lw;
         lengths = s.lengths;

@@ -62,8 +62,9 @@ impl<V: Journalled> Turns<V> {
         requires all { seat.allowance + (length seat.drawn + length seat.joined) ≡ 2 ^ 40 }
         ensures journals { map V.journal result.0.items ≡ seat.seen }
         ensures bases { map V.base result.0.items ≡ self.bases }
-        ensures whose { (k n : ℕ) → k < length seat.seen → count n (seat.number ∷ seat.joined) ≡ 0 → of V.number_of n (at_slot seat.seen k) ≡ of V.number_of n (at_slot seat.origin k) }
+        ensures whose { (k n : ℕ) → count n (seat.number ∷ seat.joined) ≡ 0 → of V.number_of n (at_slot seat.seen k) ≡ of V.number_of n (at_slot seat.origin k) }
         ensures first { self.first ≤ result.1 }
+        ensures since { (x : ℕ) → Among x seat.drawn → self.first ≤ x }
         ensures drawn { (x : ℕ) → Among x seat.drawn → x < result.1 }
         ensures times { (k x : ℕ) → Among x (times V.time_of (at_slot seat.seen k)) → x < result.1 }
         ensures most { result.1 ≤ 2 ^ 40 + max self.first (2 ^ 63) }
