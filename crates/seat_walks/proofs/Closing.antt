@@ -1,7 +1,7 @@
 -- A table, from the seats that set out and came back.
-use Rattle.std.proofs.Common.{◌≡◌, ℕ, zero, suc, ◌+◌, ◌^◌, ◌<◌, ◌≤◌, ◌≢◌, max, List, [], ◌∷◌, ◌++◌, length, map, All, refl, ap, sym, ◌∙◌, subst, ⊎_elim, arith, Option}
+use Rattle.std.proofs.Common.{◌≡◌, ℕ, suc, ◌+◌, ◌^◌, ◌<◌, ◌≤◌, ◌≢◌, max, List, [], ◌∷◌, ◌++◌, length, map, refl, ap, sym, ◌∙◌, subst, ⊎_elim, arith, Option}
 use Rattle.std.proofs.lemmas.Bool.{cases_lt}
-use Rattle.turn_facts.specs.Counts.{count, Among, NoneTwice, total}
+use Rattle.turn_facts.specs.Counts.{count, Among, total}
 use Rattle.turn_facts.specs.Notes.{of, times}
 use Rattle.turn_facts.specs.Prefixes.{StartsWith, IsAt}
 use Rattle.turn_facts.proofs.Counts.{count-nil, count-here, count-else, count-append}
@@ -12,7 +12,7 @@ use Rattle.turn_facts.proofs.Totals.{total_least}
 use Rattle.turn_table.specs.Knowledge.{at_slot}
 use Rattle.turn_table.specs.Rule.{Grew}
 use Rattle.turn_table.specs.Seats.{Table, SeatView, part_of, first_seat}
-use Rattle.seat_walks.specs.Walks.{Turned, Step, Took, Walks, all_drawn, all_notes, Walked}
+use Rattle.seat_walks.specs.Walks.{Step, Walks, all_drawn, all_notes, Walked}
 use Rattle.seat_walks.specs.Gathers.{number_in, numbers_of, share, cost, gain, IsNew, IsBack, Gathered}
 use Rattle.seat_walks.specs.Closes.{IsLast, Went, Stands, Closed}
 use Rattle.seat_walks.proofs.Walking.{walked}

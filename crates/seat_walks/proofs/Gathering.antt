@@ -1,10 +1,8 @@
 -- One seat more is split off, or taken in.
-use Rattle.std.proofs.Common.{◌≡◌, ℕ, zero, suc, ◌+◌, ◌-◌, ◌*◌, ◌<◌, ◌≤◌, ◌⊎◌, max, List, [], ◌∷◌, ◌++◌, length, refl, ap, sym, ◌∙◌, subst, ⊎_elim, arith, length-append}
-use Rattle.std.proofs.lemmas.Bool.{cases_lt}
+use Rattle.std.proofs.Common.{◌≡◌, ℕ, suc, ◌+◌, ◌-◌, ◌≤◌, max, List, [], ◌∷◌, ◌++◌, length, refl, ap, sym, ◌∙◌, subst, ⊎_elim, arith, length-append}
 use mathlib.Core.Option.{some-ne-none}
 use Rattle.turn_facts.specs.Counts.{count, Among, NoneTwice, total}
-use Rattle.turn_facts.specs.Notes.{of}
-use Rattle.turn_facts.specs.Prefixes.{StartsWith, IsAt}
+use Rattle.turn_facts.specs.Prefixes.{IsAt}
 use Rattle.turn_facts.proofs.Counts.{count-append}
 use Rattle.turn_facts.proofs.Places.{at_more}
 use Rattle.turn_facts.proofs.Prefixes.{starts_all, starts_trans}

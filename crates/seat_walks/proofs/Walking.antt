@@ -1,14 +1,14 @@
 -- What follows from the steps of a seat.
-use Rattle.std.proofs.Common.{◌≡◌, ℕ, zero, suc, ◌+◌, ◌-◌, ◌<◌, ◌≤◌, ◌≢◌, Bool, cond, max, List, [], ◌∷◌, ◌++◌, length, set, All, Option, Some, refl, ap, sym, ◌∙◌, subst, ⊎_elim, arith, append_assoc, append-nil, length-append, eq-eqb, ne_eqb}
+use Rattle.std.proofs.Common.{◌≡◌, ℕ, zero, suc, ◌+◌, ◌<◌, ◌≤◌, ◌≢◌, Bool, cond, List, [], ◌∷◌, ◌++◌, length, set, All, Option, refl, ap, sym, ◌∙◌, subst, ⊎_elim, arith, append_assoc, append-nil, length-append, eq-eqb, ne_eqb}
 use Rattle.std.proofs.lemmas.Bool.{cases_lt}
 use Rattle.std.proofs.lemmas.List.{length-set, get_or-set_same, get_or-set_other}
-use Rattle.std.proofs.lemmas.List.Elements.{All-tail, All-head, All-weaker}
-use mathlib.Core.Option.{some, some-injective, some-ne-none}
+use Rattle.std.proofs.lemmas.List.Elements.{All-tail, All-head}
+use mathlib.Core.Option.{some-injective, some-ne-none}
 use Rattle.turn_facts.specs.Counts.{count, Among}
 use Rattle.turn_facts.specs.Notes.{of, times, IsOwn}
 use Rattle.turn_facts.specs.Prefixes.{StartsWith, IsAt}
 use Rattle.turn_facts.proofs.Counts.{count-nil, count-here, count-else, count-append}
-use Rattle.turn_facts.proofs.Notes.{of-nil, of-append, times_starts}
+use Rattle.turn_facts.proofs.Notes.{of-append, times_starts}
 use Rattle.turn_facts.proofs.Places.{same_or}
 use Rattle.turn_facts.proofs.Prefixes.{starts_all, starts_longer, starts_trans}
 use Rattle.turn_table.specs.Knowledge.{at_slot}

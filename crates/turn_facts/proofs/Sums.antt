@@ -1,11 +1,9 @@
 -- Sums over the notes of a journal, seat by seat.
-use Rattle.std.proofs.Common.{◌≡◌, ℕ, zero, suc, ◌+◌, ◌<◌, ◌≤◌, ◌≢◌, ◌==◌, Bool, cond, List, [], ◌∷◌, ◌++◌, map, All, refl, ap, sym, ◌∙◌, subst, ⊎_elim, arith, eq-eqb, ne_eqb}
-use Rattle.std.proofs.lemmas.Bool.{cases_lt}
+use Rattle.std.proofs.Common.{◌≡◌, ℕ, ◌+◌, ◌≤◌, ◌≢◌, Bool, cond, List, [], ◌∷◌, All, refl, ap, sym, subst, ⊎_elim, arith, eq-eqb, ne_eqb}
 use Rattle.std.proofs.lemmas.List.Elements.{All-tail, All-head}
 use Rattle.turn_facts.specs.Counts.{count, Among, NoneTwice, total}
 use Rattle.turn_facts.specs.Notes.{of}
 use Rattle.turn_facts.proofs.Counts.{count-nil, count-here, count-else}
-use Rattle.turn_facts.proofs.Notes.{of-nil}
 use Rattle.turn_facts.proofs.Places.{same_or}
 
 module _ {N : Type 0} (number : N → ℕ) (f : N → ℕ) where
