@@ -1,5 +1,5 @@
 -- The rule holds of a table that begins.
-use Rattle.std.proofs.Common.{◌≡◌, ℕ, zero, suc, ◌+◌, ◌^◌, ◌<◌, ◌≤◌, ◌≢◌, true, List, [], ◌∷◌, length, map, get_or, Option, Some, refl, ap, sym, ◌∙◌, subst, ⊎_elim, arith}
+use Rattle.std.proofs.Common.{◌≡◌, ℕ, zero, suc, ◌+◌, ◌^◌, ◌<◌, ◌≤◌, List, [], ◌∷◌, length, map, get_or, Option, Some, refl, ap, sym, ◌∙◌, subst, arith}
 use Rattle.std.proofs.lemmas.List.{length-map}
 use mathlib.Core.Option.{some, some-injective, some-ne-none}
 use lib.ListN.{get_elem?}
@@ -9,7 +9,7 @@ use Rattle.turn_facts.specs.Notes.{times}
 use Rattle.turn_facts.specs.Prefixes.{IsAt}
 use Rattle.turn_facts.proofs.Counts.{count-nil, count-here, count-else}
 use Rattle.turn_facts.proofs.Notes.{times-nil}
-use Rattle.turn_facts.proofs.Places.{same_or, at_get, at_map}
+use Rattle.turn_facts.proofs.Places.{at_get, at_map}
 use Rattle.turn_facts.proofs.Prefixes.{starts_all}
 use Rattle.turn_facts.proofs.Totals.{total_one}
 use Rattle.turn_table.specs.declared.knows.Know.{Know}

@@ -1,4 +1,4 @@
-use Rattle.std.proofs.Common.{ℕ, ap, ◌∙◌, ◌≤◌, ◌^◌, ◌+◌, max, subst}
+use Rattle.std.proofs.Common.{ap, ◌∙◌, ◌≤◌, ◌^◌, ◌+◌, max, subst}
 use Rattle.turn_table.specs.Seats.{Table}
 use Rattle.turn_table.proofs.Calls.{closes_call, closed}
 use Rattle.turn_table.proofs.tables.Turns.close.Goals as goal
