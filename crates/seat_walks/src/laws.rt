@@ -1,62 +1,61 @@
 //! The laws. Their calls do nothing.
-ghost use Rattle.std.specs.Prelude.{◌≡◌, ℕ, ◌+◌, ◌-◌, ◌^◌, ◌<◌, ◌≤◌, List, [], ◌∷◌, ◌++◌, length, max, slice_set, Option};
-ghost use Rattle.turn_facts.specs.Counts.{Among, NoneTwice};
-ghost use Rattle.turn_facts.specs.Notes.{of};
-ghost use Rattle.turn_facts.specs.Prefixes.{StartsWith, IsAt};
-ghost use Rattle.turn_lock.specs.declared.tickets.Ticket.{Ticket};
-ghost use Rattle.turn_table.specs.Knowledge.{at_slot, longer_each};
-ghost use Rattle.turn_table.specs.Rule.{Grew};
-ghost use Rattle.turn_table.specs.Seats.{Table, SeatView, part_of};
-ghost use Rattle.seat_walks.specs.Walks.{Step, Draw, Lift, Took, Walks, Walked, IsAbove, Puts};
-ghost use Rattle.seat_walks.specs.Gathers.{IsBack, Parted, Gathered, numbers_of};
+ghost use Rattle.std.specs.Prelude.{◌≡◌, ℕ, ◌+◌, ◌^◌, List, [], ◌∷◌, ◌++◌, length, max, Option};
+ghost use Rattle.turn_facts.specs.Prefixes.{IsAt};
+ghost use Rattle.turn_table.specs.Seats.{Table, SeatView};
+ghost use Rattle.seat_walks.specs.Walks.{Turned, Step, Draw, Lift, Took, Walks, Walked};
+ghost use Rattle.seat_walks.specs.Gathers.{IsBack, Parted, Gathered};
+ghost use Rattle.seat_walks.specs.Tells.{Drew, TurnTaken, Splits, Joins};
 ghost use Rattle.seat_walks.specs.Closes.{IsLast, Went, Closed};
 
 /// What the steps of a seat add up to.
 pub fn steps_add_up<N, B>()
-    ensures { (number : N → ℕ) (time : N → Option ℕ) (s e : SeatView N B) (xs : List (Step N)) → Walks number time s xs e → Walked number time s xs e }
+    ensures { (number : N → ℕ) (time : N → Option ℕ) (s e : SeatView N B) (xs : List (Step N))
+        → Walks number time s xs e → Walked number time s xs e }
 {}
 
 /// Steps go on where others have ended, and a list of steps may be cut anywhere.
 pub fn steps_go_on<N, B>()
-    ensures joined { (number : N → ℕ) (time : N → Option ℕ) (s m e : SeatView N B) (xs ys : List (Step N)) → Walks number time s xs m → Walks number time m ys e → Walks number time s (xs ++ ys) e }
-    ensures cut { (number : N → ℕ) (time : N → Option ℕ) (s e : SeatView N B) (xs ys : List (Step N)) → Walks number time s (xs ++ ys) e → (m : SeatView N B) × Walks number time s xs m × Walks number time m ys e }
+    ensures joined { (number : N → ℕ) (time : N → Option ℕ) (s m e : SeatView N B) (xs ys : List (Step N))
+        → Walks number time s xs m → Walks number time m ys e → Walks number time s (xs ++ ys) e }
+    ensures cut { (number : N → ℕ) (time : N → Option ℕ) (s e : SeatView N B) (xs ys : List (Step N))
+        → Walks number time s (xs ++ ys) e → (m : SeatView N B) × Walks number time s xs m × Walks number time m ys e }
 {}
 
-/// From what the calls of a table tell to a step: a draw, a lift, and a turn with what was put under it.
-pub fn turns_are_steps<N, B>()
-    ensures draw { (number : N → ℕ) (time : N → Option ℕ) (s e : SeatView N B) (x : ℕ) → e ≡ record s { drawn = s.drawn ++ x ∷ []; allowance = s.allowance - 1 } → 1 ≤ s.allowance → IsAbove time s x → Walks number time s (Draw x ∷ []) e }
-    ensures lift { (number : N → ℕ) (time : N → Option ℕ) (s e : SeatView N B) (x : ℕ) → e ≡ record s { least = max s.least x } → Walks number time s (Lift x ∷ []) e }
-    ensures turn { (number : N → ℕ) (time : N → Option ℕ) (old inside put new : SeatView N B) (k : ℕ) (before later notes : List N) (numbers : List ℕ) (tickets : List Ticket)
-        → old.turns ≡ [] → inside ≡ record old { seen = slice_set old.seen k before; turns = tickets; mark = length old.drawn } → k < length inside.seen
-        → StartsWith before (at_slot old.seen k) → ((n : ℕ) → Among n (old.number ∷ old.joined) → of number n before ≡ of number n (at_slot old.seen k))
-        → Puts number time inside put before later notes numbers → new ≡ record put { seen = slice_set put.seen k later; turns = [] }
-        → Walks number time old (Took (record { slot = k; before = before; notes = notes; drawn = numbers }) ∷ []) new }
+/// From what the calls of a table tell to a step: a draw, a lift, and a turn with what was done under it.
+pub fn calls_are_steps<N, B>()
+    ensures draw { (number : N → ℕ) (time : N → Option ℕ) (s e : SeatView N B) (x : ℕ)
+        → Drew time s e x → Walks number time s (Draw x ∷ []) e }
+    ensures lift { (number : N → ℕ) (time : N → Option ℕ) (s e : SeatView N B) (x : ℕ)
+        → e ≡ record s { least = max s.least x } → Walks number time s (Lift x ∷ []) e }
+    ensures turn { (number : N → ℕ) (time : N → Option ℕ) (old inside put new : SeatView N B) (t : Turned N)
+        → TurnTaken number time old inside put new t → Walks number time old (Took t ∷ []) new }
 {}
 
 /// Seats are split off one by one.
 pub fn seats_are_split_off<N, B>()
     ensures none { (s : SeatView N B) → Parted s [] s }
-    ensures more { (s m e p : SeatView N B) (starts : List (SeatView N B)) (n : ℕ) → Parted s starts m → n + 1 ≤ m.allowance → e ≡ record m { allowance = m.allowance - (n + 1) }
-        → p ≡ record m { number = p.number; allowance = n; drawn = []; joined = []; turns = []; mark = 0 } → Parted s (starts ++ p ∷ []) e }
+    ensures more { (s m e p : SeatView N B) (starts : List (SeatView N B)) (n : ℕ)
+        → Parted s starts m → Splits m e p n → Parted s (starts ++ p ∷ []) e }
 {}
 
 /// Seats are joined one by one.
 pub fn seats_are_joined<N, B>()
     ensures none { (number : N → ℕ) (s : SeatView N B) → Gathered number s [] s }
-    ensures more { (number : N → ℕ) (t : Table B) (s m e p : SeatView N B) (parts : List (SeatView N B)) → Gathered number s parts m → IsBack t (length s.seen) p
-        → e ≡ record m { allowance = m.allowance + p.allowance; drawn = m.drawn ++ p.drawn; joined = m.joined ++ p.number ∷ p.joined; least = max m.least p.least; seen = longer_each m.seen p.seen }
-        → NoneTwice e.drawn → NoneTwice (numbers_of e) → Grew number e.seen (part_of m) → Grew number e.seen (part_of p) → Gathered number s (parts ++ p ∷ []) e }
+    ensures more { (number : N → ℕ) (t : Table B) (s m e p : SeatView N B) (parts : List (SeatView N B))
+        → Gathered number s parts m → IsBack t (length s.seen) p → Joins number m e p → Gathered number s (parts ++ p ∷ []) e }
 {}
 
 /// Seats that took steps may be joined, and the seat that took in all of them may end its table.
 pub fn seats_come_back<N, B>()
-    ensures join { (number : N → ℕ) (time : N → Option ℕ) (t : Table B) (old : List (List N)) (s p : SeatView N B) (starts ends : List (SeatView N B)) (i : ℕ) → Went number time t old s starts ends → IsAt ends i p → IsBack t (length old) p }
-    ensures close { (number : N → ℕ) (time : N → Option ℕ) (t : Table B) (old : List (List N)) (s e : SeatView N B) (starts ends : List (SeatView N B)) → Went number time t old s starts ends → Gathered number s ends e
-        → e.allowance + (length e.drawn + length e.joined) ≡ 2 ^ 40 }
+    ensures join { (number : N → ℕ) (time : N → Option ℕ) (t : Table B) (old : List (List N)) (s : SeatView N B) (starts ends : List (SeatView N B))
+        → Went number time t old s starts ends → (i : ℕ) (p : SeatView N B) → IsAt ends i p → IsBack t (length old) p }
+    ensures close { (number : N → ℕ) (time : N → Option ℕ) (t : Table B) (old : List (List N)) (s e : SeatView N B) (starts ends : List (SeatView N B))
+        → Went number time t old s starts ends → Gathered number s ends e → e.allowance + (length e.drawn + length e.joined) ≡ 2 ^ 40 }
 {}
 
 /// A table that has ended is told from the seats that took its turns.
 pub fn a_table_tells_all<N, B>()
-    ensures { (number : N → ℕ) (time : N → Option ℕ) (t : Table B) (old new : List (List N)) (last : ℕ) (s e : SeatView N B) (starts ends : List (SeatView N B))
-        → Went number time t old s starts ends → Gathered number s ends e → IsLast number time e new last → Closed number time t.first last old new starts ends }
+    ensures { (number : N → ℕ) (time : N → Option ℕ) (t : Table B) (old : List (List N)) (s e : SeatView N B) (starts ends : List (SeatView N B))
+        → Went number time t old s starts ends → Gathered number s ends e
+        → (new : List (List N)) (last : ℕ) → IsLast number time e new last → Closed number time t.first last old new starts ends }
 {}

@@ -6,8 +6,8 @@
 mod laws;
 
 pub use crate::laws::{
-    a_table_tells_all, seats_are_joined, seats_are_split_off, seats_come_back, steps_add_up,
-    steps_go_on, turns_are_steps,
+    a_table_tells_all, calls_are_steps, seats_are_joined, seats_are_split_off, seats_come_back,
+    steps_add_up, steps_go_on,
 };
 
 #[cfg(test)]

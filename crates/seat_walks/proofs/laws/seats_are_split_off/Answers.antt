@@ -5,4 +5,4 @@ pub returns-clause-none : goal.returns-clause-none
 returns-clause-none g c = λ s. parted_none s
 
 pub returns-clause-more : goal.returns-clause-more
-returns-clause-more g c = λ s m e p starts n from room left new. parted_more s m e p starts n from room left new
+returns-clause-more g c = λ s m e p starts n from d. parted_more s m e p starts n from d.room d.seat d.other
