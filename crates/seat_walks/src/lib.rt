@@ -1,6 +1,9 @@
-//! What a seat does at a table of turns, as a list of steps, and what follows from it: the seat's own notes, what it had seen, and the numbers that it drew.
+//! What a seat does at a table of turns, as a list of steps, and what follows from it: the seat's own
+//! notes, what it had seen, and the numbers that it drew.
 //!
-//! The layer above says of each of its calls by which steps it took the seat on, and of many seats that they were split off and joined. It relies on the laws: when the table has ended, all that was done is told from the seats alone. Nothing here runs.
+//! The layer above says of each of its calls by which steps it took the seat on, and of many seats that
+//! they were split off and joined. It relies on the laws: when the table has ended, all that was done is
+//! told from the seats alone. Nothing here runs.
 #![tactic(auto)]
 
 mod laws;
