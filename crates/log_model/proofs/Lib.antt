@@ -5,3 +5,4 @@ pub mod Counts
 pub mod Applies
 pub mod Reached
 pub mod Dimensions
+pub mod Examples

@@ -1,52 +1,19 @@
-//! The live rows and the hits of a search, computed from the log alone.
+//! The live rows and the hits of a search, computed plainly from the log alone: a reference for tests.
 
-ghost use Rattle.std.specs.Prelude.{◌≡◌, length, OnOk, OnErr, IfOk};
+ghost use Rattle.std.specs.Prelude.{◌≡◌, length, IfOk};
 ghost use Rattle.std.specs.List.{AllByRecursion};
-ghost use Rattle.std.specs.Ordering.{int_cmp};
-ghost use Rattle.std.specs.BTreeMap.{insert_entry};
 ghost use Rattle.std.specs.FinMap as fin;
-ghost use Rattle.log_model.specs.Logs.{Rows, applied, live};
+ghost use Rattle.log_model.specs.Logs.{live};
 ghost use Rattle.log_model.specs.Scans.{passes_filter, hits_found, scan, HasDimension};
 
+use crate::changes::apply;
 use crate::distances::distance;
-use crate::logs::{Entry, Write};
+use crate::logs::Entry;
 use crate::queries::{Plan, Query};
 use hybrid_time::Timestamp;
 use row_types::{Hit, Memory, Row};
 use std::alloc::Global;
 use std::collections::BTreeMap;
-
-/// Sets the row of its key.
-fn set(alloc: Global, rows: &mut BTreeMap<i64, Row>, row: &Row) -> Result<(), Memory>
-    ensures ok { OnOk result (rows.new.entries ≡ insert_entry int_cmp rows.old.entries row.now.key.0 row.now) }
-    ensures err { OnErr result (rows.new.entries ≡ rows.old.entries) }
-{
-    let copy = row.copy(alloc)?;
-    rows.insert(row.key.0, copy)?;
-    Ok(())
-}
-
-/// Applies a write to live rows, which stand by their keys; a row that it brings is copied. An `Err`
-/// leaves the rows as they were.
-pub fn apply(alloc: Global, rows: &mut BTreeMap<i64, Row>, write: &Write) -> Result<(), Memory>
-    ensures ok { OnOk result ((m : Rows) → fin.entries m ≡ rows.old.entries → fin.entries (applied m write.now) ≡ rows.new.entries) }
-    ensures err { OnErr result (rows.new.entries ≡ rows.old.entries) }
-{
-    match write {
-        Write::Insert(row) => {
-            if !rows.contains_key(&row.key.0) {
-                set(alloc, rows, row)?;
-            }
-        }
-        Write::Upsert(row) => {
-            set(alloc, rows, row)?;
-        }
-        Write::Delete(key) => {
-            rows.remove(&key.0);
-        }
-    }
-    Ok(())
-}
 
 /// The rows that are live at a timestamp, by rising key.
 pub fn live_at(alloc: Global, log: &[Entry], ts: Timestamp) -> Result<Vec<Row>, Memory>

@@ -1,6 +1,6 @@
 use Rattle.std.proofs.Common.{sym, ◌∙◌}
 use Rattle.log_model.proofs.Applies.{insert_new, insert_old, upsert_set, delete_cleared}
-use Rattle.log_model.proofs.slow.apply.Goals as goal
+use Rattle.log_model.proofs.changes.apply.Goals as goal
 
 pub returns-in_ok-set-in-Insert-clause-ok : goal.returns-in_ok-set-in-Insert-clause-ok
 returns-in_ok-set-in-Insert-clause-ok c = λ m same. insert_new m _ _ _ c.in-Insert.row c.in-Insert.is same (sym c.contains_key.ensures ∙ c.if-not-contains_key.true) c.in_ok-set-in-Insert.ensures.ok
