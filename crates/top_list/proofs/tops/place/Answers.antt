@@ -1,5 +1,5 @@
 use Rattle.top_list.proofs.Laws.{placed_behind, placed_at, placed_already}
-use Rattle.top_list.proofs.buffers.place.Goals as goal
+use Rattle.top_list.proofs.tops.place.Goals as goal
 
 pub returns-then-is_behind-clause-hits : goal.returns-then-is_behind-clause-hits
 returns-then-is_behind-clause-hits c =

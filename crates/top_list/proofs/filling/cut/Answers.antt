@@ -2,7 +2,7 @@ use Rattle.std.proofs.Common.{take, ap, ◌∙◌}
 use Rattle.std.proofs.lemmas.List.Filters.{dedup_is}
 use Rattle.row_types.proofs.Least.{least-from_dedup}
 use Rattle.top_list.proofs.Laws.{own_from_least}
-use Rattle.top_list.proofs.buffers.cut.Goals as goal
+use Rattle.top_list.proofs.filling.cut.Goals as goal
 
 pub returns-clause-items : goal.returns-clause-items
 returns-clause-items c =
