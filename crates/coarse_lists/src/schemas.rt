@@ -89,3 +89,42 @@ fn are_different(columns: &[(Text, Kind)]) -> bool
     }
     true
 }
+
+#[cfg(test)]
+mod tests {
+    use super::*;
+    use row_types::Memory;
+    use std::alloc::Global;
+
+    #[test]
+    fn a_name_is_a_word_of_64_bytes_that_is_not_taken(rt: HostRuntime) {
+        const LONGEST: &str = "a_name_of_64_bytes__________________________________________zzzz";
+        for name in ["_", "lang", "Year2", "keys", LONGEST] {
+            assert!(rt; is_column_name(name), "at {name}");
+        }
+        const LONGER: &str = "a_name_of_65_bytes___________________________________________zzzz";
+        for name in ["", "2year", "a-b", "a b", "jahr\u{e4}", "key", "and", "or", "not", "in", "true", "false", LONGER] {
+            assert!(rt; !is_column_name(name), "at {name}");
+        }
+    }
+
+    fn columns(alloc: Global, names: &[&str]) -> Result<Vec<(Text, Kind)>, Memory> {
+        let mut columns = Vec::new(alloc);
+        for name in names {
+            columns.push((Text::copied(alloc, *name)?, Kind::Bool))?;
+        }
+        Ok(columns)
+    }
+
+    #[test]
+    fn a_collection_has_at_most_16_columns_of_different_names(rt: HostRuntime) -> Result<(), Memory> {
+        let alloc = rt.alloc();
+        let letters = ["a", "b", "c", "d", "e", "f", "g", "h", "i", "j", "k", "l", "m", "n", "o", "p", "q"];
+        assert!(rt; is_schema(&columns(alloc, &[])?));
+        assert!(rt; is_schema(&columns(alloc, &letters[..16])?));
+        assert!(rt; !is_schema(&columns(alloc, &letters)?));
+        assert!(rt; !is_schema(&columns(alloc, &["a", "b", "a"])?));
+        assert!(rt; !is_schema(&columns(alloc, &["a", "key"])?));
+        Ok(())
+    }
+}
