@@ -17,9 +17,7 @@ const MAX_NAME: usize = 64;
 pub fn is_schema(columns: &[(Text, Kind)]) -> bool
     ensures { result ≡ is_schema columns.now }
 {
-    columns.len() <= MAX_COLUMNS
-        && have_names(columns)
-        && are_different(columns)
+    columns.len() <= MAX_COLUMNS && have_names(columns) && are_different(columns)
 }
 
 fn have_names(columns: &[(Text, Kind)]) -> bool
@@ -103,7 +101,21 @@ mod tests {
             assert!(rt; is_column_name(name), "at {name}");
         }
         const LONGER: &str = "a_name_of_65_bytes___________________________________________zzzz";
-        for name in ["", "2year", "a-b", "a b", "jahr\u{e4}", "key", "and", "or", "not", "in", "true", "false", LONGER] {
+        for name in [
+            "",
+            "2year",
+            "a-b",
+            "a b",
+            "jahr\u{e4}",
+            "key",
+            "and",
+            "or",
+            "not",
+            "in",
+            "true",
+            "false",
+            LONGER,
+        ] {
             assert!(rt; !is_column_name(name), "at {name}");
         }
     }
@@ -117,9 +129,13 @@ mod tests {
     }
 
     #[test]
-    fn a_collection_has_at_most_16_columns_of_different_names(rt: HostRuntime) -> Result<(), Memory> {
+    fn a_collection_has_at_most_16_columns_of_different_names(
+        rt: HostRuntime,
+    ) -> Result<(), Memory> {
         let alloc = rt.alloc();
-        let letters = ["a", "b", "c", "d", "e", "f", "g", "h", "i", "j", "k", "l", "m", "n", "o", "p", "q"];
+        let letters = [
+            "a", "b", "c", "d", "e", "f", "g", "h", "i", "j", "k", "l", "m", "n", "o", "p", "q",
+        ];
         assert!(rt; is_schema(&columns(alloc, &[])?));
         assert!(rt; is_schema(&columns(alloc, &letters[..16])?));
         assert!(rt; !is_schema(&columns(alloc, &letters)?));

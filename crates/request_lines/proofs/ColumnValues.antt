@@ -1,11 +1,12 @@
 -- Fields that are given by name are values of the columns, once they stand in the columns' order.
 use Rattle.std.proofs.Common.{◌≡◌, ℕ, zero, suc, ℤ, Bool, true, false, List, [], ◌∷◌, ◌++◌, length, take, drop, refl, sym, ap, subst, ◌∙◌, append-nil, append_assoc, Option, Some, None, Result, Ok, Err}
-use Rattle.std.specs.Prelude.{◌&&◌, cond, nat_le, slice_get, remove, codes}
+use Rattle.std.specs.Prelude.{◌&&◌, cond, nat_le, slice_get, remove, codes, IfOk, IfSome}
 use Rattle.std.specs.Option.{option_map, option_and_then}
 use Rattle.std.specs.List.{list_all}
 use Rattle.std.specs.Result.{result_ok}
 use Rattle.serde_json.specs.Data.{Data, null, boolean, number, string, array, object, Members, no_members, member}
 use Rattle.serde_json.specs.Find.{as_i64, as_object}
+use Rattle.row_types.specs.declared.allocation.Memory.{Memory}
 use Rattle.row_types.specs.declared.rows.Kind.{Kind}
 use Rattle.row_types.specs.declared.rows.Field.{Field}
 use Rattle.row_types.specs.declared.rows.Field.TheVariants.{Int, Bool as Truth, Text}
@@ -33,7 +34,8 @@ module _ {X : Type 0} (p : X → Bool) where
   at_true (y ∷ xs) (suc i) x all e = at_true xs i x ((both_true (p y) (list_all p xs) all).1) e
 
   without_true : (xs : List X) (i : ℕ) → list_all p xs ≡ true → list_all p (remove xs i) ≡ true
-  without_true [] i all = refl
+  without_true [] zero all = refl
+  without_true [] (suc i) all = refl
   without_true (y ∷ xs) zero all = (both_true (p y) (list_all p xs) all).1
   without_true (y ∷ xs) (suc i) all =
       let parts = both_true (p y) (list_all p xs) all in
@@ -82,10 +84,10 @@ members_short (member name d ms) given e = onto_short name (field_of d) (given_i
 
 -- ---- what is arranged
 
-record IsTaken (column : List ℕ × Kind) (field : Field) (others : Given) : Type 0 where
+record IsTaken (column : List ℕ × Kind) (field : Field) (left : Given) : Type 0 where
   kind : is_kind column.1 field ≡ true
   short : is_short field ≡ true
-  others : AllShort others
+  others : AllShort left
 
 checked_if : (column : List ℕ × Kind) (rest : Given) (g : List ℕ × Field) (b : Bool) (t : Field × Given)
     → is_kind column.1 g.1 ≡ b → is_short g.1 ≡ true → AllShort rest
@@ -115,9 +117,11 @@ column_values : (column : List ℕ × Kind) (columns : Columns) (done : List Fie
 column_values column columns done out (Err fault) taken behind e = cc
 column_values column columns done out (Ok t) taken behind e =
     let facts = taken t refl in
-    let others = behind (done ++ t.0 ∷ []) t.1 facts.others e in
-    (t.0 ∷ others.0, others.1 ∙ append_assoc done (t.0 ∷ []) others.0,
-    joined_true (is_kind column.1 t.0 && is_short t.0) (are_values columns others.0) (joined_true (is_kind column.1 t.0) (is_short t.0) facts.kind facts.short) others.2)
+    let others = behind (done ++ t.0 ∷ []) t.1 facts.others e in (
+      t.0 ∷ others.0,
+      others.1 ∙ append_assoc done (t.0 ∷ []) others.0,
+      joined_true (is_kind column.1 t.0 && is_short t.0) (are_values columns others.0) (joined_true (is_kind column.1 t.0) (is_short t.0) facts.kind facts.short) others.2,
+    )
 
 arranged_values : (columns : Columns) (done : List Field) (given : Given) (out : List Field) → AllShort given → arranged_after done columns given ≡ Ok out → Arranged columns done out
 arranged_values [] done [] out all e = let same : done ≡ out = cc in ([], sym same ∙ sym (append-nil done), refl)
@@ -152,5 +156,12 @@ unfolding given_at
 given_at_short line given e = stated_short (at (codes "fields") line) given e
 
 -- the fields of a line are values of the columns
-pub fields_values : (columns : Columns) (line : Line) (given : Given) (fields : List Field) → given_at line ≡ Some given → in_columns columns given ≡ Some fields → are_values columns fields ≡ true
+fields_values : (columns : Columns) (line : Line) (given : Given) (fields : List Field) → given_at line ≡ Some given → in_columns columns given ≡ Some fields → are_values columns fields ≡ true
 fields_values columns line given fields found e = in_columns_values columns given fields (given_at_short line given found) e
+
+-- the same of what a call gave, unless memory ran out
+pub found_values : (columns : Columns) (line : Line) (given : Given) (r : Result (Option (List Field)) Memory) → given_at line ≡ Some given
+    → IfOk r (λ found. found ≡ in_columns columns given) → IfOk r (λ found. IfSome found (λ fields. are_values columns fields ≡ true))
+found_values columns line given (Err e) found is = tt
+found_values columns line given (Ok None) found is = tt
+found_values columns line given (Ok (Some fields)) found is = fields_values columns line given fields found (sym is)

@@ -84,11 +84,7 @@ pub fn operation_in(value: &Value) -> Result<Operation, Reason>
     Ok(operation)
 }
 
-fn vector_in(
-    alloc: Global,
-    collection: &Collection,
-    value: &Value,
-) -> Result<BitVector, LineError>
+fn vector_in(alloc: Global, collection: &Collection, value: &Value) -> Result<BitVector, LineError>
     requires { IsDimension collection.now.dim }
     ensures ok { IfOk result (λ vector. vector_read collection.now (Some (view value.now)) ≡ Ok vector) }
     ensures err { IfErr result (Refuses (vector_read collection.now (Some (view value.now)))) }

@@ -9,7 +9,8 @@ use std::alloc::{AllocError, Global};
 use std::test::Fail;
 
 /// Documents with a language and a year.
-const DOCUMENTS: &[u8] = br#"{"op":"create","dim":8,"metric":"JACCARD","fields":[{"name":"lang","type":"VARCHAR"},{"name":"year","type":"INT64"}]}"#;
+const DOCUMENTS: &[u8] =
+    br#"{"op":"create","dim":8,"metric":"JACCARD","fields":[{"name":"lang","type":"VARCHAR"},{"name":"year","type":"INT64"}]}"#;
 
 /// A line in which a piece stands so many times.
 fn line_of(
@@ -47,13 +48,31 @@ fn only_a_create_line_makes_a_collection(rt: HostRuntime) -> Result<(), Fail> {
         (r#"{"op":"create","dim":8,"fields":[]}"#, Some(8)),
         (r#"{"op":"create","dim":8,"fields":{}}"#, None),
         (r#"{"op":"create","dim":8,"fields":["lang"]}"#, None),
-        (r#"{"op":"create","dim":8,"fields":[{"name":"a","type":"BOOL"}]}"#, Some(8)),
+        (
+            r#"{"op":"create","dim":8,"fields":[{"name":"a","type":"BOOL"}]}"#,
+            Some(8),
+        ),
         (r#"{"op":"create","dim":8,"fields":[{"name":"a"}]}"#, None),
-        (r#"{"op":"create","dim":8,"fields":[{"name":"a","type":"TEXT"}]}"#, None),
-        (r#"{"op":"create","dim":8,"fields":[{"name":"a","type":"BOOL","x":1}]}"#, None),
-        (r#"{"op":"create","dim":8,"fields":[{"name":"key","type":"BOOL"}]}"#, None),
-        (r#"{"op":"create","dim":8,"fields":[{"name":"","type":"BOOL"}]}"#, None),
-        (r#"{"op":"create","dim":8,"fields":[{"name":"1a","type":"BOOL"}]}"#, None),
+        (
+            r#"{"op":"create","dim":8,"fields":[{"name":"a","type":"TEXT"}]}"#,
+            None,
+        ),
+        (
+            r#"{"op":"create","dim":8,"fields":[{"name":"a","type":"BOOL","x":1}]}"#,
+            None,
+        ),
+        (
+            r#"{"op":"create","dim":8,"fields":[{"name":"key","type":"BOOL"}]}"#,
+            None,
+        ),
+        (
+            r#"{"op":"create","dim":8,"fields":[{"name":"","type":"BOOL"}]}"#,
+            None,
+        ),
+        (
+            r#"{"op":"create","dim":8,"fields":[{"name":"1a","type":"BOOL"}]}"#,
+            None,
+        ),
         (
             r#"{"op":"create","dim":8,"fields":[{"name":"a","type":"BOOL"},{"name":"a","type":"INT64"}]}"#,
             None,
@@ -96,9 +115,18 @@ fn a_line_is_refused_for_the_first_reason(rt: HostRuntime) -> Result<(), Fail> {
             r#"{"op":"insert","key":1,"vector":"0g"}"#,
             Reason::BadVector,
         ),
-        (r#"{"op":"insert","key":1,"vector":"00","k":1}"#, Reason::UnknownMember),
-        (r#"{"op":"insert","key":1,"vector":"00"}"#, Reason::BadFields),
-        (r#"{"op":"insert","key":1,"vector":"00","fields":[]}"#, Reason::BadFields),
+        (
+            r#"{"op":"insert","key":1,"vector":"00","k":1}"#,
+            Reason::UnknownMember,
+        ),
+        (
+            r#"{"op":"insert","key":1,"vector":"00"}"#,
+            Reason::BadFields,
+        ),
+        (
+            r#"{"op":"insert","key":1,"vector":"00","fields":[]}"#,
+            Reason::BadFields,
+        ),
         (
             r#"{"op":"insert","key":1,"vector":"00","fields":{"lang":"en"}}"#,
             Reason::BadFields,
@@ -136,9 +164,18 @@ fn a_line_is_refused_for_the_first_reason(rt: HostRuntime) -> Result<(), Fail> {
             r#"{"op":"search","vector":"00","k":1,"delta_ms":4294967296,"filter":"key =="}"#,
             Reason::BadLevel,
         ),
-        (r#"{"op":"search","vector":"00","k":1,"filter":1}"#, Reason::BadFilter),
-        (r#"{"op":"search","vector":"00","k":1,"filter":"key =="}"#, Reason::BadFilter),
-        (r#"{"op":"search","vector":"00","k":1,"filter":"nam"}"#, Reason::BadFilter),
+        (
+            r#"{"op":"search","vector":"00","k":1,"filter":1}"#,
+            Reason::BadFilter,
+        ),
+        (
+            r#"{"op":"search","vector":"00","k":1,"filter":"key =="}"#,
+            Reason::BadFilter,
+        ),
+        (
+            r#"{"op":"search","vector":"00","k":1,"filter":"nam"}"#,
+            Reason::BadFilter,
+        ),
         (
             r#"{"op":"search","vector":"00","k":1,"filter":"key == \"a\""}"#,
             Reason::BadFilter,
@@ -237,9 +274,12 @@ fn a_header_has_its_metric_and_columns(rt: HostRuntime) -> Result<(), Fail> {
 #[test]
 fn fields_stand_in_the_order_of_the_columns(rt: HostRuntime) -> Result<(), Fail> {
     let collection = read_header(rt.alloc(), DOCUMENTS)?;
-    let line = br#"{"op":"insert","key":1,"vector":"0f","fields":{"year":1,"year":2021,"lang":"en"}}"#;
+    let line =
+        br#"{"op":"insert","key":1,"vector":"0f","fields":{"year":1,"year":2021,"lang":"en"}}"#;
     let insert = read_line(rt.alloc(), line, &collection)?;
-    assert!(rt; matches!(&insert.what, Ask::Write(Write::Insert(row)) if is_english(row.fields.as_slice())));
+    assert!(rt;
+        matches!(&insert.what, Ask::Write(Write::Insert(row)) if is_english(row.fields.as_slice()))
+    );
     Ok(())
 }
 
@@ -256,7 +296,10 @@ fn a_search_has_its_filter(rt: HostRuntime) -> Result<(), Fail> {
     for (line, want) in [
         (r#"{"op":"search","vector":"0f","k":1}"#, false),
         (r#"{"op":"search","vector":"0f","k":1,"filter":""}"#, false),
-        (r#"{"op":"search","vector":"0f","k":1,"filter":"   "}"#, false),
+        (
+            r#"{"op":"search","vector":"0f","k":1,"filter":"   "}"#,
+            false,
+        ),
         (
             r#"{"op":"search","vector":"0f","k":1,"filter":"year >= 2020"}"#,
             true,
@@ -319,7 +362,10 @@ fn what_is_one_longer_than_the_limit_is_refused(rt: HostRuntime) -> Result<(), F
         ),
     ] {
         let good = line_of(rt.alloc(), before, piece, most, after)?;
-        assert!(rt; read_line(rt.alloc(), good.as_bytes(), &collection).is_ok(), "at {before}");
+        assert!(rt;
+            read_line(rt.alloc(), good.as_bytes(), &collection).is_ok(),
+            "at {before}"
+        );
         let long = line_of(rt.alloc(), before, piece, most + 1, after)?;
         let refusal = read_line(rt.alloc(), long.as_bytes(), &collection).err();
         assert_eq!(rt; refusal, Some(LineError::Refused(want)), "at {before}");
