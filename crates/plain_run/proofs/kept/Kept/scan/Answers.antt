@@ -57,4 +57,3 @@ invariant_of-self-2-clause-early c =
 
 pub invariant_of-self-2-clause-same : goal.invariant_of-self-2-clause-same
 invariant_of-self-2-clause-same c = subst (λ log. fin.entries (rows_of (take c.take_in.new.taken log)) ≡ c.take_in.new.rows.entries) c.as_slice.ensures.value c.take_in.ensures.same
-
