@@ -1,5 +1,5 @@
 -- Fields that are given by name are values of the columns, once they stand in the columns' order.
-use Rattle.std.proofs.Common.{◌≡◌, ℕ, zero, suc, ℤ, Bool, true, false, List, [], ◌∷◌, ◌++◌, length, take, drop, refl, sym, ap, subst, ◌∙◌, append-nil, append_assoc, Option, Some, None, Result, Ok, Err}
+use Rattle.std.proofs.Common.{◌≡◌, ℕ, zero, suc, ℤ, Bool, true, false, List, [], ◌∷◌, ◌++◌, length, refl, sym, subst, ◌∙◌, append-nil, append_assoc, Option, Some, None, Result, Ok, Err}
 use Rattle.std.specs.Prelude.{◌&&◌, cond, nat_le, slice_get, remove, codes, IfOk, IfSome}
 use Rattle.std.specs.Option.{option_map, option_and_then}
 use Rattle.std.specs.List.{list_all}
@@ -15,7 +15,7 @@ use Rattle.row_types.specs.declared.schemas.FieldError.TheVariants.{WrongKind}
 use Rattle.row_types.specs.Schemas.{Columns, Given, is_kind, place_of, checked, taken_at, taken, and_then, arranged_after}
 use Rattle.coarse_lists.specs.Schemas.{is_short, are_values}
 use Rattle.request_lines.specs.Json.{Line, at, stated, onto}
-use Rattle.request_lines.specs.Members.{short_text, field_of, named_field, given_in, given_at, in_columns}
+use Rattle.request_lines.specs.Members.{field_of, given_in, given_at, in_columns}
 
 -- ---- lists
 

@@ -1,15 +1,14 @@
 -- What is known of every collection and every request that is read.
-use Rattle.std.proofs.Common.{◌≡◌, ℕ, Bool, true, false, List, refl, sym, ap, ◌∙◌, Option, Some, None, Result, Ok, Err}
+use Rattle.std.proofs.Common.{◌≡◌, ℕ, Bool, true, false, List, refl, sym, ap, ◌∙◌, Some, None, Ok}
 use Rattle.std.specs.Prelude.{cond, find}
 use Rattle.coarse_lists.specs.declared.collections.Collection.{Collection}
-use Rattle.answer_lines.specs.declared.reasons.Reason.{Reason}
 use Rattle.log_model.specs.declared.logs.Write.{Write}
 use Rattle.log_model.specs.declared.logs.Write.TheVariants as writes
 use Rattle.log_model.specs.Scans.{FitsDimension}
 use Rattle.request_lines.specs.declared.requests.Request.{Request}
-use Rattle.request_lines.specs.Headers.{is_header, collection_in, header_in, header_of}
+use Rattle.request_lines.specs.Headers.{is_header, collection_in, header_of}
 use Rattle.request_lines.specs.Json.{Line, line_of}
-use Rattle.request_lines.specs.Requests.{holds, reasons, refused_or, request_in, operation_in, request_of, FitsWrite}
+use Rattle.request_lines.specs.Requests.{holds, reasons, request_in, operation_in, request_of, FitsWrite}
 use Rattle.request_lines.proofs.Tables.{value_is}
 
 made_if : (b : Bool) (made collection : Collection) → made.channels ≡ 1 → cond b (Some made) None ≡ Some collection → collection.channels ≡ 1

@@ -1,5 +1,5 @@
 -- The table of reasons, and the request that a line is where no reason holds.
-use Rattle.std.specs.Prelude.{◌≡◌, ℕ, ℤ, pos, ◌≤◌, Bool, true, not, ◌&&◌, List, [], ◌∷◌, length, find, Option, Some, None, IfSome, IsTrue, option_and_then, is_none, unwrap_or, Result, Ok, Err, codes}
+use Rattle.std.specs.Prelude.{◌≡◌, ℕ, pos, ◌≤◌, Bool, true, not, ◌&&◌, List, [], ◌∷◌, length, find, Option, Some, None, IfSome, IsTrue, option_and_then, is_none, unwrap_or, Result, Ok, Err, codes}
 use Rattle.std.specs.List.{list_any}
 use Rattle.std.specs.Str.{bytes_eq}
 use Rattle.row_types.specs.Schemas.{fits}
