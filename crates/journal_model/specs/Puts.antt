@@ -1,0 +1,99 @@
+-- Rows by the place of their put, and their death.
+use Rattle.std.specs.Prelude.{◌≡◌, ℕ, ℤ, ◌+◌, ◌≤◌, nat_eq, nat_le, Bool, false, if◌then◌else◌, List, [], ◌∷◌, length, take, drop, slice_get, Option, Some, None}
+use Rattle.std.specs.Option.{option_and_then, option_or}
+use Rattle.std.specs.Ordering.{int_eq}
+use Rattle.std.specs.FinMap as fin
+use Rattle.row_types.specs.declared.rows.Row.{Row}
+use Rattle.log_model.specs.Places.{Placed, placed}
+use Rattle.journal_model.specs.declared.notes.PutKind.{PutKind}
+use Rattle.journal_model.specs.declared.notes.PutKind.TheVariants.{Insert, Upsert}
+use Rattle.journal_model.specs.declared.notes.Kind.{Kind}
+use Rattle.journal_model.specs.declared.notes.Kind.TheVariants.{Put, Remove}
+use Rattle.journal_model.specs.declared.notes.Note.{Note}
+use Rattle.journal_model.specs.Notes.{live_in}
+use Rattle.journal_model.specs.Walks.{walked}
+
+-- an insert of a key that is live after the notes before adds no row
+abbrev pub effective_put : List Note → ℕ → PutKind → Row → Option Placed
+effective_put before ts Insert row = if fin.contains_key (live_in before) row.key.0 then None else Some (placed (length before) ts row)
+effective_put before ts Upsert row = Some (placed (length before) ts row)
+
+-- the row that a note adds behind the notes before
+abbrev pub effective : List Note → Kind → Option Placed
+effective before (Put ts how row) = effective_put before ts.0 how row
+effective before _ = None
+
+-- the row that was added at a position
+abbrev pub put_at : List Note → ℕ → Option Placed
+put_at notes position = option_and_then (λ note. effective (take position notes) note.kind) (slice_get notes position)
+
+abbrev pub ended_by : ℕ → PutKind → Option ℕ
+ended_by ts Insert = None
+ended_by ts Upsert = Some ts
+
+-- the timestamp of a note that ends a row of the key
+abbrev pub ended : ℤ → Kind → Option ℕ
+ended key (Put ts how row) = if int_eq key row.key.0 then ended_by ts.0 how else None
+ended key (Remove ts removed) = if int_eq key removed.0 then Some ts.0 else None
+ended key _ = None
+
+abbrev pub first_end : ℤ → List Note → Option ℕ
+first_end key [] = None
+first_end key (note ∷ notes) = option_or (ended key note.kind) (first_end key notes)
+
+-- the timestamp of the first note behind a position that is an upsert or a remove of the key
+abbrev pub dead_at : List Note → ℕ → ℤ → Option ℕ
+dead_at notes position key = first_end key (drop (position + 1) notes)
+
+-- when a row died, if it did
+abbrev pub death : List Note → Placed → Option ℕ
+death notes x = dead_at notes x.position x.row.key.0
+
+abbrev pub is_dead_by : ℕ → Option ℕ → Bool
+is_dead_by t None = false
+is_dead_by t (Some ts) = nat_le ts t
+
+-- ---- the key index: the place of the live row of a key
+
+abbrev pub over : Option Placed → PutKind → Placed → Option Placed
+over None how x = Some x
+over (Some old) Insert x = Some old
+over (Some old) Upsert x = Some x
+
+abbrev pub reindexed : ℤ → List Note → Option Placed → Kind → Option Placed
+reindexed key before now (Put ts how row) = if int_eq key row.key.0 then over now how (placed (length before) ts.0 row) else now
+reindexed key before now (Remove ts removed) = if int_eq key removed.0 then None else now
+reindexed key before now _ = now
+
+-- the live row of a key after all notes
+abbrev pub index_of : List Note → ℤ → Option Placed
+index_of notes key = walked (λ before now note. reindexed key before now note.kind) None notes
+
+-- ---- live rows by places
+
+-- a row that was added at or before a timestamp and is not dead there
+pub record IsAlive (notes : List Note) (t : ℕ) (x : Placed) : Type 0 where
+  pub put : put_at notes x.position ≡ Some x
+  pub old : x.ts ≤ t
+  pub alive : is_dead_by t (death notes x) ≡ false
+
+-- ---- marks by positions
+
+abbrev pub end_at : ℕ → Option Placed → Option (ℕ × ℕ)
+end_at ts None = None
+end_at ts (Some x) = Some (x.position, ts)
+
+abbrev pub put_ends : List Note → ℕ → PutKind → Row → Option (ℕ × ℕ)
+put_ends notes ts Insert row = None
+put_ends notes ts Upsert row = end_at ts (index_of notes row.key.0)
+
+-- the position of the row that a note ends, and when
+abbrev pub ends : List Note → Kind → Option (ℕ × ℕ)
+ends notes (Put ts how row) = put_ends notes ts.0 how row
+ends notes (Remove ts key) = end_at ts.0 (index_of notes key.0)
+ends notes _ = None
+
+-- the mark of a row at a position after a row was ended
+abbrev pub marked : Option (ℕ × ℕ) → ℕ → Option ℕ → Option ℕ
+marked None position mark = mark
+marked (Some end) position mark = if nat_eq end.0 position then Some end.1 else mark
