@@ -12,16 +12,17 @@ use Rattle.std.proofs.lemmas.Bool.Decides.{Decides-int_eq}
 use Rattle.std.proofs.lemmas.List.{length-map}
 use Rattle.std.proofs.lemmas.List.Sums.{length-filter, count_by-le-length, sum_by_push, sum_by-cons}
 use Rattle.journal_model.specs.declared.notes.Note.{Note}
-use Rattle.journal_model.specs.Journals.{UpTo, AreUpTo}
 use Rattle.journal_model.specs.Notes.{live_in}
-use Rattle.log_model.specs.Places.{Placed}
-use Rattle.journal_model.specs.Puts.{death, is_dead_by, dead_at, index_of}
-use Rattle.journal_model.specs.declared.notes.Home.TheVariants.{Node}
-use Rattle.journal_model.specs.Layouts.{Channel, Segment, Begun, Layout, rows_in, is_among, sources_in, others_in, is_kept, product, with_segment, with_product, begun_as, merged, layout_of}
-use Rattle.journal_model.specs.Counts.{is_alive, is_waiting, Bound, waiting_in, on_nodes, counts_of, is_mostly_dead, and_groups, grouped_from}
+use Rattle.journal_model.specs.Journals.{UpTo, AreUpTo}
+use Rattle.journal_model.specs.Puts.{death, is_dead_by, dead_at}
+use Rattle.journal_model.specs.Tables.{index_of}
+use Rattle.journal_model.specs.Layouts.{Channel, Segment, BegunMerge, Layout, rows_in, is_among, sources_in, others_in, is_kept, merged_piece, with_segment, with_merged, begun_merge, after_merge, layout_of}
 use Rattle.journal_model.specs.Lawful.{IsLawful}
-use Rattle.journal_model.specs.Views.{IsIn, joined}
-use Rattle.journal_model.specs.Runs.{Stand, rows_held}
+use Rattle.journal_model.specs.Lists.{IsIn, joined}
+use Rattle.journal_model.specs.Runs.{IsConsistent, all_rows}
+use Rattle.journal_model.specs.Counts.{is_alive, is_waiting, IsBounded, waiting_in, on_nodes, counts_of, is_mostly_dead, and_groups, grouped_from}
+use Rattle.log_model.specs.Places.{Placed}
+use Rattle.journal_model.specs.declared.notes.Home.TheVariants.{Node}
 use Rattle.journal_model.proofs.IndexLaws.{index_stands, get-index}
 use Rattle.journal_model.proofs.ListLaws.{in_cases, in_filter, out_filter, all_in, all_from, in_map, out_map, count-append, count-cons, count_some}
 use Rattle.journal_model.proofs.PieceLaws.{count-either, by_position_in}
@@ -88,7 +89,7 @@ module _ {X : Type 0} where
 
 -- ---- the rows that are alive have keys of their own
 
-module _ (notes : List Note) (floor : ℕ) (rows : List Placed) (stand : Stand notes floor rows) where
+module _ (notes : List Note) (floor : ℕ) (rows : List Placed) (stand : IsConsistent notes floor rows) where
   key_of : Placed → ℤ
   key_of x = x.row.key.0
 
@@ -179,12 +180,12 @@ waiting_rows most (s ∷ segments) a =
       | false ↦ λ e. rest
     ] refl
 
-pub counts_bound : (channel : Channel) (notes : List Note) (floor : ℕ) → 0 < channel.seal_rows → IsLawful channel notes → Stand notes floor (rows_held (layout_of channel notes)) → Bound channel (counts_of channel notes)
+pub counts_bound : (channel : Channel) (notes : List Note) (floor : ℕ) → 0 < channel.seal_rows → IsLawful channel notes → IsConsistent notes floor (all_rows (layout_of channel notes)) → IsBounded channel (counts_of channel notes)
 counts_bound channel notes floor some lawful stand =
     let segments : List Segment = (layout_of channel notes).segments in
     let tail : List Placed = (layout_of channel notes).tail in
     let sized = sizes channel some notes lawful in
-    let live : fin.len (live_in notes) ≡ count_by (is_alive notes) (rows_in (layout_of channel notes).segments ++ (layout_of channel notes).tail) = live_count notes floor (rows_held (layout_of channel notes)) stand in
+    let live : fin.len (live_in notes) ≡ count_by (is_alive notes) (rows_in (layout_of channel notes).segments ++ (layout_of channel notes).tail) = live_count notes floor (all_rows (layout_of channel notes)) stand in
     let parts : count_by (is_alive notes) (rows_in (layout_of channel notes).segments ++ (layout_of channel notes).tail) ≡ count_by (is_alive notes) (rows_in (layout_of channel notes).segments) + count_by (is_alive notes) (layout_of channel notes).tail = count-append (is_alive notes) (rows_in (layout_of channel notes).segments) (layout_of channel notes).tail in
     let either : count_by (is_alive notes) (rows_in (waiting_in (layout_of channel notes).segments)) + count_by (is_alive notes) (rows_in (on_nodes (layout_of channel notes).segments)) ≡ count_by (is_alive notes) (rows_in (layout_of channel notes).segments) = count-either (is_alive notes) is_waiting (layout_of channel notes).segments in
     let nodes : count_by (is_alive notes) (rows_in (on_nodes (layout_of channel notes).segments)) ≤ length (rows_in (on_nodes (layout_of channel notes).segments)) = count_by-le-length (is_alive notes) (rows_in (on_nodes (layout_of channel notes).segments)) in
@@ -224,8 +225,8 @@ AreClean notes left segments = (s : Segment) → IsIn s segments → is_waiting 
 
 -- a merge at the floor cleans its sources
 pub merge_cleans : (notes : List Note) (by : ℕ) (layout : Layout) (sources left : List ℕ) (segment : Option ℕ) (node : ℕ)
-    → ((n : ℕ) (b : Begun) → segment ≡ Some n → begun_as layout by n ≡ Some b → (x : Placed) → is_kept (take b.at notes) b.floor x ≡ true → is_alive notes x ≡ true)
-    → AreClean notes (sources ++ left) layout.segments → AreClean notes left (merged notes by layout sources segment node).segments
+    → ((n : ℕ) (b : BegunMerge) → segment ≡ Some n → begun_merge layout by n ≡ Some b → (x : Placed) → is_kept (take b.at notes) b.floor x ≡ true → is_alive notes x ≡ true)
+    → AreClean notes (sources ++ left) layout.segments → AreClean notes left (after_merge notes by layout sources segment node).segments
 unfolding AreClean
 merge_cleans notes by layout sources left segment node fit clean s i on = go segment refl i
   where
@@ -247,17 +248,17 @@ merge_cleans notes by layout sources left segment node fit clean s i on = go seg
       | false ↦ λ g. ⊎_elim (λ e. inr (inl e)) (λ r. ⊎_elim (λ e. inl e) (λ j. inr (inr j)) (inside z others r)) g
     ] i
 
-    given : (n : ℕ) → segment ≡ Some n → (o : Option Begun) → begun_as layout by n ≡ o → IsIn s (with_product notes layout sources node o (others_in sources layout.segments)) → (is_among left s ≡ true) ⊎ ((x : Placed) → IsIn x s.piece → is_alive notes x ≡ true)
+    given : (n : ℕ) → segment ≡ Some n → (o : Option BegunMerge) → begun_merge layout by n ≡ o → IsIn s (with_merged notes layout sources node o (others_in sources layout.segments)) → (is_among left s ≡ true) ⊎ ((x : Placed) → IsIn x s.piece → is_alive notes x ≡ true)
     given n q None e i = other i
     given n q (Some b) e i = ⊎_elim
         (λ is. inr (λ x j. fit n b q e x
         (out_filter (is_kept (take b.at notes) b.floor) x (rows_in (sources_in sources layout.segments)) (by_position_in x (filter (is_kept (take b.at notes) b.floor) (rows_in (sources_in sources layout.segments))) (subst (λ z. IsIn x z.piece) is j))).1))
         (λ r. other r)
-        (inside (record { number = b.number; piece = product notes layout sources b; homes = Node node ∷ [] }) (others_in sources layout.segments) i)
+        (inside (record { number = b.number; piece = merged_piece notes layout sources b; homes = Node node ∷ [] }) (others_in sources layout.segments) i)
 
-    go : (o : Option ℕ) → segment ≡ o → IsIn s (merged notes by layout sources o node).segments → (is_among left s ≡ true) ⊎ ((x : Placed) → IsIn x s.piece → is_alive notes x ≡ true)
+    go : (o : Option ℕ) → segment ≡ o → IsIn s (after_merge notes by layout sources o node).segments → (is_among left s ≡ true) ⊎ ((x : Placed) → IsIn x s.piece → is_alive notes x ≡ true)
     go None q i = other i
-    go (Some n) q i = given n q (begun_as layout by n) refl i
+    go (Some n) q i = given n q (begun_merge layout by n) refl i
 
 -- where nothing is left to be merged, all rows on nodes are alive
 pub clean_counts : (notes : List Note) (segments : List Segment) → AreClean notes [] segments → length (rows_in (on_nodes segments)) ≡ count_by (is_alive notes) (rows_in (on_nodes segments))

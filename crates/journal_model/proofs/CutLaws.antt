@@ -14,10 +14,11 @@ use Rattle.journal_model.specs.declared.notes.Kind.{Kind}
 use Rattle.journal_model.specs.declared.notes.Kind.TheVariants.{Put, Remove, Tick}
 use Rattle.journal_model.specs.declared.notes.Note.{Note}
 use Rattle.journal_model.specs.Notes.{ts_of, changed_key, entries_of, log_of, live_in, tick_after, tick_from, tick_of}
-use Rattle.journal_model.specs.Journals.{UpTo, Above, AreUpTo, AreAbove, is_below, is_same, differ, is_mate, may_follow, is_dated, is_next, IsJournal}
-use Rattle.log_model.specs.Places.{Placed, placed}
-use Rattle.journal_model.specs.Puts.{effective, put_at, ended, first_end, dead_at, death, is_dead_by, index_of, IsAlive}
+use Rattle.journal_model.specs.Journals.{UpTo, Above, AreUpTo, AreAbove, is_below, is_same, is_other_key, shares_batch, may_follow, is_dated, is_next, IsJournal}
+use Rattle.journal_model.specs.Puts.{effective, put_at, ended, first_end, dead_at, death, is_dead_by, IsAlive}
+use Rattle.journal_model.specs.Tables.{index_of}
 use Rattle.journal_model.specs.Views.{IsLiveAt}
+use Rattle.log_model.specs.Places.{Placed, placed}
 use Rattle.journal_model.proofs.WalkLaws.{by_each}
 use Rattle.journal_model.proofs.NoteLaws.{log_of-append}
 use Rattle.journal_model.proofs.OrderLaws.{follow_up_to, next_follows}
@@ -220,18 +221,18 @@ alive_live notes journal t x a =
 
 -- ---- stability: later changes are above the tick
 
-mates_tick : (low : ℕ) (before : List Note) (note : Note) → list_all (is_mate note) before ≡ true → tick_from low before ≡ low
+mates_tick : (low : ℕ) (before : List Note) (note : Note) → list_all (shares_batch note) before ≡ true → tick_from low before ≡ low
 mates_tick low [] note h = refl
 mates_tick low (first ∷ before) note h =
-    let parts = and_parts (is_mate note first) (list_all (is_mate note) before) h in
+    let parts = and_parts (shares_batch note first) (list_all (shares_batch note) before) h in
     ap (λ t. tick_from t before) (no_tick (changed_key note.kind) first.kind (mate_changes note first parts.0)) ∙ mates_tick low before note parts.1
   where
-    mate_changes : (note earlier : Note) → is_mate note earlier ≡ true → differ (changed_key earlier.kind) (changed_key note.kind) ≡ true
+    mate_changes : (note earlier : Note) → shares_batch note earlier ≡ true → is_other_key (changed_key earlier.kind) (changed_key note.kind) ≡ true
     mate_changes note earlier h =
-        let parts = and_parts (eqb earlier.by note.by && eqb earlier.line note.line) (is_same (ts_of earlier.kind) (ts_of note.kind) && differ (changed_key earlier.kind) (changed_key note.kind)) h in
-        (and_parts (is_same (ts_of earlier.kind) (ts_of note.kind)) (differ (changed_key earlier.kind) (changed_key note.kind)) parts.1).1
+        let parts = and_parts (eqb earlier.by note.by && eqb earlier.line note.line) (is_same (ts_of earlier.kind) (ts_of note.kind) && is_other_key (changed_key earlier.kind) (changed_key note.kind)) h in
+        (and_parts (is_same (ts_of earlier.kind) (ts_of note.kind)) (is_other_key (changed_key earlier.kind) (changed_key note.kind)) parts.1).1
 
-    no_tick : (later : Option ℤ) (kind : Kind) → differ (changed_key kind) later ≡ true → tick_after low kind ≡ low
+    no_tick : (later : Option ℤ) (kind : Kind) → is_other_key (changed_key kind) later ≡ true → tick_after low kind ≡ low
     no_tick later (Tick ts) d = absurd (false≢true d)
     no_tick later _ d = refl
 
@@ -242,7 +243,7 @@ follow_tick low t (first ∷ before) note e lt h =
     (λ l. let parts = and_parts (is_below (ts_of first.kind) (ts_of note.kind)) (may_follow before note) l in
     follow_tick (tick_after low first.kind) t before note e (after_below first.kind parts.0) parts.1)
     (λ r. subst (λ n. n < t) (sym (mates_tick low (first ∷ before) note r)) lt)
-    (or_cases (is_below (ts_of first.kind) (ts_of note.kind) && may_follow before note) (list_all (is_mate note) (first ∷ before)) h)
+    (or_cases (is_below (ts_of first.kind) (ts_of note.kind) && may_follow before note) (list_all (shares_batch note) (first ∷ before)) h)
   where
     after_below : (kind : Kind) → is_below (ts_of kind) (ts_of note.kind) ≡ true → tick_after low kind < t
     after_below (Tick ts) b = ltb-true ts.0 t (subst (λ o. is_below (Some ts.0) o ≡ true) e b)

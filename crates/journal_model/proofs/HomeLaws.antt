@@ -11,9 +11,9 @@ use Rattle.journal_model.specs.declared.notes.Kind.TheVariants.{Put, Seal, Load,
 use Rattle.journal_model.specs.declared.notes.Note.{Note}
 use Rattle.log_model.specs.Places.{Placed}
 use Rattle.journal_model.specs.Puts.{effective_put}
-use Rattle.journal_model.specs.Layouts.{Channel, Segment, Begun, Layout, number_at, waiting, closed, with_tail, with_row, sealed, is_home, loaded, released, with_homes, rehome, is_among, others_in, product, begun_as, with_product, laid_by, layout_of}
+use Rattle.journal_model.specs.Layouts.{Channel, Segment, BegunMerge, Layout, number_at, waiting_segment, after_boundary, with_tail, with_row, after_seal, is_home, homes_after_load, homes_after_release, with_homes, rehome, is_among, others_in, merged_piece, begun_merge, with_merged, layout_after, layout_of}
 use Rattle.journal_model.specs.Lawful.{homes_in, is_there, is_at, is_allowed, is_lawful, IsLawful}
-use Rattle.journal_model.specs.Runs.{Once}
+use Rattle.journal_model.specs.Invariants.{Once}
 use Rattle.journal_model.proofs.WalkLaws.{by_each}
 use Rattle.journal_model.proofs.ListLaws.{count-push, count_filter, count-cons}
 use Rattle.journal_model.proofs.PieceLaws.{each_filter, each_with_segment}
@@ -29,10 +29,10 @@ at_most : (b : Bool) → cond b 1 0 ≤ 1
 at_most true = omega arith
 at_most false = omega arith
 
-once_loaded : (node : ℕ) (homes : List Home) → list_any (is_home (Node node)) homes ≡ false → Once homes → Once (loaded node homes)
+once_loaded : (node : ℕ) (homes : List Home) → list_any (is_home (Node node)) homes ≡ false → Once homes → Once (homes_after_load node homes)
 unfolding Once
 once_loaded node homes none once n =
-    let push : count_by (is_home (Node n)) (loaded node homes) ≡ count_by (is_home (Node n)) (filter (λ home. not (is_home Leader home)) homes) + cond (nat_eq n node) 1 0 = count-push (is_home (Node n)) (filter (λ home. not (is_home Leader home)) homes) (Node node) in
+    let push : count_by (is_home (Node n)) (homes_after_load node homes) ≡ count_by (is_home (Node n)) (filter (λ home. not (is_home Leader home)) homes) + cond (nat_eq n node) 1 0 = count-push (is_home (Node n)) (filter (λ home. not (is_home Leader home)) homes) (Node node) in
     let fewer : count_by (is_home (Node n)) (filter (λ home. not (is_home Leader home)) homes) ≤ count_by (is_home (Node n)) homes = count_filter (is_home (Node n)) (λ home. not (is_home Leader home)) homes in
     let one : count_by (is_home (Node n)) homes ≤ 1 = once n in
     ⊎_elim
@@ -55,18 +55,18 @@ once_one home n = let c : count_by (is_home (Node n)) (home ∷ []) ≡ cond (is
 abbrev EachOnce : List Segment → Type 0
 EachOnce segments = AllByRecursion (λ s. Once s.homes) segments
 
-close_once : (channel : Channel) (layout : Layout) (rows : List Placed) → EachOnce layout.segments → EachOnce (closed channel layout rows).segments
-close_once channel layout rows a = each-append (λ s. Once s.homes) layout.segments (waiting (number_at channel layout.taken) rows ∷ []) a (once_one Leader, tt)
+close_once : (channel : Channel) (layout : Layout) (rows : List Placed) → EachOnce layout.segments → EachOnce (after_boundary channel layout rows).segments
+close_once channel layout rows a = each-append (λ s. Once s.homes) layout.segments (waiting_segment (number_at channel layout.taken) rows ∷ []) a (once_one Leader, tt)
 
 row_once : (channel : Channel) (layout : Layout) (o : Option Placed) → EachOnce layout.segments → EachOnce (with_row channel layout o).segments
 row_once channel layout None a = a
-row_once channel layout (Some x) a = elim (nat_le channel.seal_rows (length (layout.tail ++ x ∷ []))) as (λ b. EachOnce (cond b (closed channel layout (layout.tail ++ x ∷ [])) (with_tail layout (layout.tail ++ x ∷ []))).segments) [
+row_once channel layout (Some x) a = elim (nat_eq (length (layout.tail ++ x ∷ [])) channel.seal_rows) as (λ b. EachOnce (cond b (after_boundary channel layout (layout.tail ++ x ∷ [])) (with_tail layout (layout.tail ++ x ∷ []))).segments) [
   | true ↦ close_once channel layout (layout.tail ++ x ∷ []) a
   | false ↦ a
 ]
 
-seal_once : (channel : Channel) (layout : Layout) → EachOnce layout.segments → EachOnce (sealed channel layout).segments
-seal_once channel layout a = elim (nat_eq (length layout.tail) 0) as (λ b. EachOnce (cond b layout (closed channel layout layout.tail)).segments) [
+seal_once : (channel : Channel) (layout : Layout) → EachOnce layout.segments → EachOnce (after_seal channel layout).segments
+seal_once channel layout a = elim (nat_eq (length layout.tail) 0) as (λ b. EachOnce (cond b layout (after_boundary channel layout layout.tail)).segments) [
   | true ↦ a
   | false ↦ close_once channel layout layout.tail a
 ]
@@ -79,19 +79,19 @@ rehome_once number change (s ∷ segments) f a =
       | false ↦ λ g. (a.0, rehome_once number change segments g a.1)
     ] f
 
-product_once : (notes : List Note) (layout : Layout) (sources : List ℕ) (node : ℕ) (o : Option Begun) → EachOnce layout.segments → EachOnce (with_product notes layout sources node o (others_in sources layout.segments))
+product_once : (notes : List Note) (layout : Layout) (sources : List ℕ) (node : ℕ) (o : Option BegunMerge) → EachOnce layout.segments → EachOnce (with_merged notes layout sources node o (others_in sources layout.segments))
 product_once notes layout sources node None a = each_filter (λ s. Once s.homes) (λ s. not (is_among sources s)) layout.segments a
-product_once notes layout sources node (Some b) a = each_with_segment (λ s. Once s.homes) (record { number = b.number; piece = product notes layout sources b; homes = Node node ∷ [] }) (others_in sources layout.segments) (once_one (Node node)) (each_filter (λ s. Once s.homes) (λ s. not (is_among sources s)) layout.segments a)
+product_once notes layout sources node (Some b) a = each_with_segment (λ s. Once s.homes) (record { number = b.number; piece = merged_piece notes layout sources b; homes = Node node ∷ [] }) (others_in sources layout.segments) (once_one (Node node)) (each_filter (λ s. Once s.homes) (λ s. not (is_among sources s)) layout.segments a)
 
-note_once : (channel : Channel) (notes : List Note) (by : ℕ) (layout : Layout) (kind : Kind) → is_allowed channel notes by layout kind ≡ true → EachOnce layout.segments → EachOnce (laid_by channel notes by layout kind).segments
+note_once : (channel : Channel) (notes : List Note) (by : ℕ) (layout : Layout) (kind : Kind) → is_allowed channel notes by layout kind ≡ true → EachOnce layout.segments → EachOnce (layout_after channel notes by layout kind).segments
 note_once channel notes by layout (Put ts how row) ok a = row_once channel layout (effective_put notes ts.0 how row) a
 note_once channel notes by layout (Seal ts) ok a = seal_once channel layout a
 note_once channel notes by layout (Load segment node) ok a =
     let parts = and_parts (is_there layout segment) (not (is_at layout segment (Node node))) ok in
-    rehome_once segment (loaded node) layout.segments (λ homes is once. once_loaded node homes (subst (λ l. list_any (is_home (Node node)) l ≡ false) is (not-true (is_at layout segment (Node node)) parts.1)) once) a
-note_once channel notes by layout (Release segment node) ok a = rehome_once segment (released node) layout.segments (λ homes is once. once_filter (λ home. not (is_home (Node node) home)) homes once) a
+    rehome_once segment (homes_after_load node) layout.segments (λ homes is once. once_loaded node homes (subst (λ l. list_any (is_home (Node node)) l ≡ false) is (not-true (is_at layout segment (Node node)) parts.1)) once) a
+note_once channel notes by layout (Release segment node) ok a = rehome_once segment (homes_after_release node) layout.segments (λ homes is once. once_filter (λ home. not (is_home (Node node) home)) homes once) a
 note_once channel notes by layout (Merge sources None node) ok a = each_filter (λ s. Once s.homes) (λ s. not (is_among sources s)) layout.segments a
-note_once channel notes by layout (Merge sources (Some segment) node) ok a = product_once notes layout sources node (begun_as layout by segment) a
+note_once channel notes by layout (Merge sources (Some segment) node) ok a = product_once notes layout sources node (begun_merge layout by segment) a
 note_once channel notes by layout _ ok a = a
 
 nothing_once : (channel : Channel) → EachOnce (layout_of channel []).segments

@@ -17,8 +17,9 @@ use Rattle.journal_model.specs.declared.notes.Kind.{Kind}
 use Rattle.journal_model.specs.declared.notes.Kind.TheVariants.{Put, Remove}
 use Rattle.journal_model.specs.declared.notes.Note.{Note}
 use Rattle.journal_model.specs.Notes.{entries_of, live_in}
+use Rattle.journal_model.specs.Puts.{effective, put_at, ended, first_end, dead_at}
+use Rattle.journal_model.specs.Tables.{over, reindexed, index_of}
 use Rattle.log_model.specs.Places.{Placed, placed}
-use Rattle.journal_model.specs.Puts.{effective, put_at, ended, first_end, dead_at, over, reindexed, index_of}
 use Rattle.journal_model.proofs.WalkLaws.{by_snoc, walked-snoc}
 use Rattle.journal_model.proofs.NoteLaws.{live_in-snoc}
 use Rattle.journal_model.proofs.PutLaws.{put_at-append, put_at-new, put_at_past, put_within, dead_at-append, dead_at-new, first_end-one}

@@ -9,7 +9,8 @@ use Rattle.journal_model.specs.declared.notes.Kind.{Kind}
 use Rattle.journal_model.specs.declared.notes.Kind.TheVariants.{Put, Remove}
 use Rattle.journal_model.specs.declared.notes.Note.{Note}
 use Rattle.log_model.specs.Places.{Placed}
-use Rattle.journal_model.specs.Puts.{put_at, ended, dead_at, death, index_of, end_at, ends, marked}
+use Rattle.journal_model.specs.Puts.{put_at, ended, dead_at, death}
+use Rattle.journal_model.specs.Tables.{index_of, end_at, ends, marked}
 use Rattle.journal_model.proofs.PutLaws.{put_within, dead_at-append, first_end-one}
 use Rattle.journal_model.proofs.IndexLaws.{index_stands}
 

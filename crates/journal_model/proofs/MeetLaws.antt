@@ -8,15 +8,15 @@ use Rattle.std.proofs.lemmas.List.{take_all, length_push, map-append}
 use Rattle.log_model.proofs.LogLaws.{each-append, each_implied}
 use Rattle.journal_model.specs.declared.notes.Kind.TheVariants.{Number, Merge}
 use Rattle.journal_model.specs.declared.notes.Note.{Note}
+use Rattle.journal_model.specs.Notes.{ts_of, note_of}
 use Rattle.journal_model.specs.Journals.{is_next, IsJournal, UpTo, AreUpTo}
-use Rattle.journal_model.specs.Notes.{ts_of}
-use Rattle.log_model.specs.Places.{Placed}
 use Rattle.journal_model.specs.Puts.{ended, dead_at, death}
-use Rattle.journal_model.specs.Layouts.{Channel, Segment, Begun, number_at, rows_in, is_among, is_kept, begun_as, merged, numbered, laid, layout_of}
+use Rattle.journal_model.specs.Layouts.{Channel, Segment, BegunMerge, number_at, rows_in, is_among, is_kept, begun_merge, after_merge, after_number, next_layout, layout_of}
 use Rattle.journal_model.specs.Lawful.{is_lawful, IsLawful}
-use Rattle.journal_model.specs.Counts.{is_alive, is_waiting, on_nodes, counts_of, kept_rows, grouped, is_mostly_dead, meet_groups, numbers_of, note_of, merge_notes, AfterMerges}
-use Rattle.journal_model.specs.Views.{IsIn, joined}
-use Rattle.journal_model.specs.Runs.{IsFresh}
+use Rattle.journal_model.specs.Lists.{IsIn, joined}
+use Rattle.journal_model.specs.Invariants.{IsFresh}
+use Rattle.journal_model.specs.Counts.{is_alive, is_waiting, on_nodes, counts_of, kept_rows, grouped, is_mostly_dead, meet_groups, numbers_of, merge_notes, AfterMerges}
+use Rattle.log_model.specs.Places.{Placed}
 use Rattle.journal_model.proofs.WalkLaws.{each-parts, each-front}
 use Rattle.journal_model.proofs.PutLaws.{dead_at-append, dead_at-new, dead_at_past, first_end-one}
 use Rattle.journal_model.proofs.ListLaws.{in_filter, in_map}
@@ -47,7 +47,7 @@ clean_longer : (notes : List Note) (note : Note) (left : List ℕ) (segments : L
 unfolding AreClean
 clean_longer notes note left segments none clean s i on = ⊎_elim (λ l. inl l) (λ r. inr (λ x j. ap (λ o. not (is_some o)) (quiet notes note x (none x.row.key.0)) ∙ r x j)) (clean s i on)
 
-find_last : (n by : ℕ) (begun : List Begun) (b : Begun) → AllByRecursion (λ c. c.number ≢ n) begun → find (λ c. nat_eq c.number n && nat_eq c.by by) (begun ++ b ∷ []) ≡ cond (nat_eq b.number n && nat_eq b.by by) (Some b) None
+find_last : (n by : ℕ) (begun : List BegunMerge) (b : BegunMerge) → AllByRecursion (λ c. c.number ≢ n) begun → find (λ c. nat_eq c.number n && nat_eq c.by by) (begun ++ b ∷ []) ≡ cond (nat_eq b.number n && nat_eq b.by by) (Some b) None
 find_last n by [] b a = refl
 find_last n by (c ∷ begun) b a = ap (λ t. cond (t && nat_eq c.by by) (Some c) (find (λ d. nat_eq d.number n && nat_eq d.by by) (begun ++ b ∷ []))) (ne_eqb c.number n a.0) ∙ find_last n by begun b a.1
 
@@ -65,26 +65,26 @@ module _ (channel : Channel) (floor : ℕ) (notes : List Note) (by line : ℕ) (
       let same : (notes ++ note_of by line (Number number (record { 0 = floor })) ∷ []) ++ note_of by line (Merge group given node) ∷ [] ≡ notes ++ merge_notes floor by line group number given node = append_assoc notes (one ∷ []) (two ∷ []) in
       let both = each-parts (λ before n. is_lawful channel before n ≡ true) (notes ++ one ∷ []) two (subst (IsLawful channel) (sym same) lawful) in
       let parts = each-parts (λ before n. is_lawful channel before n ≡ true) notes one both.0 in
-      let b : Begun = record { number = number; by = by; floor = floor; at = length notes + 1 } in
+      let b : BegunMerge = record { number = number; by = by; floor = floor; at = length notes + 1 } in
       let next : number ≡ number_at channel (layout_of channel notes).taken = eqb-true number (number_at channel (layout_of channel notes).taken) parts.1 in
-      let laid_one : layout_of channel (notes ++ one ∷ []) ≡ numbered notes by (layout_of channel notes) number floor = layout-snoc channel notes one in
+      let laid_one : layout_of channel (notes ++ one ∷ []) ≡ after_number notes by (layout_of channel notes) number floor = layout-snoc channel notes one in
       let others : AllByRecursion (λ c. c.number ≢ number) (layout_of channel notes).begun =
       each_implied (λ c. IsFresh channel (layout_of channel notes) c.number) (λ c. c.number ≢ number) (λ c f e. let lt : c.number < number_at channel (layout_of channel notes).taken = taken_low channel (layout_of channel notes).taken c.number f.0 in absurd (omega arith)) (layout_of channel notes).begun (numbers channel notes parts.0).fresh in
-      let own : begun_as (numbered notes by (layout_of channel notes) number floor) by number ≡ Some b =
+      let own : begun_merge (after_number notes by (layout_of channel notes) number floor) by number ≡ Some b =
       find_last number by (layout_of channel notes).begun b others ∙ ap (λ t. cond t (Some b) None) (and_from (nat_eq number number) (nat_eq by by) (eq-eqb number number refl) (eq-eqb by by refl)) in
       let up : AreUpTo floor (notes ++ one ∷ []) = each-append (λ n. UpTo floor (ts_of n.kind)) notes (one ∷ []) low (tt, tt) in
-      let fit : (n : ℕ) (c : Begun) → given ≡ Some n → begun_as (numbered notes by (layout_of channel notes) number floor) by n ≡ Some c → (x : Placed) → is_kept (take c.at (notes ++ one ∷ [])) c.floor x ≡ true → is_alive (notes ++ one ∷ []) x ≡ true =
+      let fit : (n : ℕ) (c : BegunMerge) → given ≡ Some n → begun_merge (after_number notes by (layout_of channel notes) number floor) by n ≡ Some c → (x : Placed) → is_kept (take c.at (notes ++ one ∷ [])) c.floor x ≡ true → is_alive (notes ++ one ∷ []) x ≡ true =
       (λ n c g f x k.
       let at_number : n ≡ number = subst (λ o. IfSome o (λ segment. segment ≡ number)) g is in
-      let it : Some c ≡ Some b = sym f ∙ ap (begun_as (numbered notes by (layout_of channel notes) number floor) by) at_number ∙ own in
+      let it : Some c ≡ Some b = sym f ∙ ap (begun_merge (after_number notes by (layout_of channel notes) number floor) by) at_number ∙ own in
       let is_b : c ≡ b = cc in
       let whole : take (length notes + 1) (notes ++ one ∷ []) ≡ notes ++ one ∷ [] = take_all (length notes + 1) (notes ++ one ∷ []) (omega (arith, length_push notes one)) in
       sym (kept_alive (notes ++ one ∷ []) floor x up) ∙ ap (λ l. is_kept l floor x) (sym whole) ∙ subst (λ d. is_kept (take d.at (notes ++ one ∷ [])) d.floor x ≡ true) is_b k) in
-      let after : AreClean (notes ++ one ∷ []) left (merged (notes ++ one ∷ []) by (numbered notes by (layout_of channel notes) number floor) group given node).segments =
-      merge_cleans (notes ++ one ∷ []) by (numbered notes by (layout_of channel notes) number floor) group left given node fit (clean_longer notes one (group ++ left) (layout_of channel notes).segments (λ key. refl) clean) in
+      let after : AreClean (notes ++ one ∷ []) left (after_merge (notes ++ one ∷ []) by (after_number notes by (layout_of channel notes) number floor) group given node).segments =
+      merge_cleans (notes ++ one ∷ []) by (after_number notes by (layout_of channel notes) number floor) group left given node fit (clean_longer notes one (group ++ left) (layout_of channel notes).segments (λ key. refl) clean) in
       subst (λ l. AreClean l left (layout_of channel l).segments) same
-      (subst (λ l. AreClean ((notes ++ one ∷ []) ++ two ∷ []) left l.segments) (sym (layout-snoc channel (notes ++ one ∷ []) two ∙ ap (λ l. laid channel (notes ++ one ∷ []) l two) laid_one))
-      (clean_longer (notes ++ one ∷ []) two left (merged (notes ++ one ∷ []) by (numbered notes by (layout_of channel notes) number floor) group given node).segments (λ key. refl) after))
+      (subst (λ l. AreClean ((notes ++ one ∷ []) ++ two ∷ []) left l.segments) (sym (layout-snoc channel (notes ++ one ∷ []) two ∙ ap (λ l. next_layout channel (notes ++ one ∷ []) l two) laid_one))
+      (clean_longer (notes ++ one ∷ []) two left (after_merge (notes ++ one ∷ []) by (after_number notes by (layout_of channel notes) number floor) group given node).segments (λ key. refl) after))
 
 pub after_more : (floor : ℕ) (groups : List (List ℕ)) (notes end : List Note) → AfterMerges floor notes groups end → (more : List Note) × (end ≡ notes ++ more)
 after_more floor [] notes end a = ([], a ∙ sym (append-nil notes))

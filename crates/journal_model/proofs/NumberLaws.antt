@@ -11,10 +11,10 @@ use Rattle.journal_model.specs.declared.notes.Kind.TheVariants.{Put, Seal, Numbe
 use Rattle.journal_model.specs.declared.notes.Note.{Note}
 use Rattle.log_model.specs.Places.{Placed}
 use Rattle.journal_model.specs.Puts.{effective_put}
-use Rattle.journal_model.specs.Layouts.{Channel, Segment, Begun, Layout, number_at, waiting, closed, with_tail, with_row, sealed, loaded, released, with_homes, rehome, with_segments, is_among, others_in, product, with_segment, without, begun_as, with_product, merged, numbered, laid_by, layout_of}
-use Rattle.journal_model.specs.Lawful.{is_begun, is_product, is_allowed, is_lawful, IsLawful}
-use Rattle.journal_model.specs.Runs.{NumbersRise, BegunRise, IsTaken, IsFresh, Numbered}
-use Rattle.journal_model.proofs.AllowLaws.{merge_allowed}
+use Rattle.journal_model.specs.Layouts.{Channel, Segment, BegunMerge, Layout, number_at, waiting_segment, after_boundary, with_tail, with_row, after_seal, homes_after_load, homes_after_release, with_homes, rehome, with_segments, is_among, others_in, merged_piece, with_segment, without_begun, begun_merge, with_merged, after_merge, after_number, layout_after, layout_of}
+use Rattle.journal_model.specs.Lawful.{is_allowed, is_lawful, IsLawful}
+use Rattle.journal_model.specs.Invariants.{NumbersRise, BegunRise, IsTaken, IsFresh, Numbered}
+use Rattle.journal_model.proofs.AllowLaws.{merge_allowed, keeps_rows, is_product}
 use Rattle.journal_model.proofs.WalkLaws.{by_each}
 use Rattle.journal_model.proofs.PieceLaws.{each_filter, each_with_segment}
 use Rattle.journal_model.proofs.LayoutLaws.{layout-snoc}
@@ -39,11 +39,11 @@ rise_filter p (x ∷ segments) r = elim (p x) as (λ b. NumbersRise (cond b (x �
   | false ↦ rise_filter p segments r.1
 ]
 
-begun_push : (begun : List Begun) (b : Begun) → BegunRise begun → AllByRecursion (λ c. c.number < b.number) begun → BegunRise (begun ++ b ∷ [])
+begun_push : (begun : List BegunMerge) (b : BegunMerge) → BegunRise begun → AllByRecursion (λ c. c.number < b.number) begun → BegunRise (begun ++ b ∷ [])
 begun_push [] b r low = (tt, tt)
 begun_push (x ∷ begun) b r low = (each-append (λ c. x.number < c.number) begun (b ∷ []) r.0 (low.0, tt), begun_push begun b r.1 low.1)
 
-begun_filter : (p : Begun → Bool) (begun : List Begun) → BegunRise begun → BegunRise (filter p begun)
+begun_filter : (p : BegunMerge → Bool) (begun : List BegunMerge) → BegunRise begun → BegunRise (filter p begun)
 begun_filter p [] r = tt
 begun_filter p (x ∷ begun) r = elim (p x) as (λ b. BegunRise (cond b (x ∷ filter p begun) (filter p begun))) [
   | true ↦ (each_filter (λ c. x.number < c.number) p begun r.0, begun_filter p begun r.1)
@@ -76,15 +76,15 @@ rise_rehome number change (s ∷ segments) r = elim (nat_eq s.number number) as 
   | false ↦ (each_rehome (λ n. s.number < n) number change segments r.0, rise_rehome number change segments r.1)
 ]
 
-close_numbers : (channel : Channel) (layout : Layout) (rows : List Placed) → Numbered channel layout → Numbered channel (closed channel layout rows)
+close_numbers : (channel : Channel) (layout : Layout) (rows : List Placed) → Numbered channel layout → Numbered channel (after_boundary channel layout rows)
 close_numbers channel layout rows n = record {
-  rise = rise_push layout.segments (waiting (number_at channel layout.taken) rows) n.rise (each_implied _ _ (λ s h. taken_low channel layout.taken s.number h) layout.segments n.taken);
-  taken = each-append (λ s. IsTaken channel (layout.taken + 1) s.number) layout.segments (waiting (number_at channel layout.taken) rows ∷ [])
+  rise = rise_push layout.segments (waiting_segment (number_at channel layout.taken) rows) n.rise (each_implied _ _ (λ s h. taken_low channel layout.taken s.number h) layout.segments n.taken);
+  taken = each-append (λ s. IsTaken channel (layout.taken + 1) s.number) layout.segments (waiting_segment (number_at channel layout.taken) rows ∷ [])
       (each_implied _ _ (λ s h. taken_more channel layout.taken s.number h) layout.segments n.taken) (taken_last channel layout.taken, tt);
   begun = n.begun;
-  fresh = each_implied (λ b. IsFresh channel layout b.number) (λ b. IsFresh channel (closed channel layout rows) b.number) (λ b h. (
+  fresh = each_implied (λ b. IsFresh channel layout b.number) (λ b. IsFresh channel (after_boundary channel layout rows) b.number) (λ b h. (
     taken_more channel layout.taken b.number h.0,
-    each-append (λ s. s.number ≢ b.number) layout.segments (waiting (number_at channel layout.taken) rows ∷ []) h.1 ((λ same. let low : b.number < number_at channel layout.taken = taken_low channel layout.taken b.number h.0 in absurd (omega arith)), tt),
+    each-append (λ s. s.number ≢ b.number) layout.segments (waiting_segment (number_at channel layout.taken) rows ∷ []) h.1 ((λ same. let low : b.number < number_at channel layout.taken = taken_low channel layout.taken b.number h.0 in absurd (omega arith)), tt),
   ))
       layout.begun n.fresh;
 }
@@ -94,13 +94,13 @@ tail_numbers channel layout rows n = record { rise = n.rise; taken = n.taken; be
 
 row_numbers : (channel : Channel) (layout : Layout) (o : Option Placed) → Numbered channel layout → Numbered channel (with_row channel layout o)
 row_numbers channel layout None n = n
-row_numbers channel layout (Some x) n = elim (nat_le channel.seal_rows (length (layout.tail ++ x ∷ []))) as (λ b. Numbered channel (cond b (closed channel layout (layout.tail ++ x ∷ [])) (with_tail layout (layout.tail ++ x ∷ [])))) [
+row_numbers channel layout (Some x) n = elim (nat_eq (length (layout.tail ++ x ∷ [])) channel.seal_rows) as (λ b. Numbered channel (cond b (after_boundary channel layout (layout.tail ++ x ∷ [])) (with_tail layout (layout.tail ++ x ∷ [])))) [
   | true ↦ close_numbers channel layout (layout.tail ++ x ∷ []) n
   | false ↦ tail_numbers channel layout (layout.tail ++ x ∷ []) n
 ]
 
-seal_numbers : (channel : Channel) (layout : Layout) → Numbered channel layout → Numbered channel (sealed channel layout)
-seal_numbers channel layout n = elim (nat_eq (length layout.tail) 0) as (λ b. Numbered channel (cond b layout (closed channel layout layout.tail))) [
+seal_numbers : (channel : Channel) (layout : Layout) → Numbered channel layout → Numbered channel (after_seal channel layout)
+seal_numbers channel layout n = elim (nat_eq (length layout.tail) 0) as (λ b. Numbered channel (cond b layout (after_boundary channel layout layout.tail))) [
   | true ↦ n
   | false ↦ close_numbers channel layout layout.tail n
 ]
@@ -114,14 +114,14 @@ rehome_numbers channel layout number change n = record {
       (λ b h. (h.0, each_rehome (λ m. m ≢ b.number) number change layout.segments h.1)) layout.begun n.fresh;
 }
 
-number_numbers : (channel : Channel) (notes : List Note) (by : ℕ) (layout : Layout) (segment floor : ℕ) → segment ≡ number_at channel layout.taken → Numbered channel layout → Numbered channel (numbered notes by layout segment floor)
+number_numbers : (channel : Channel) (notes : List Note) (by : ℕ) (layout : Layout) (segment floor : ℕ) → segment ≡ number_at channel layout.taken → Numbered channel layout → Numbered channel (after_number notes by layout segment floor)
 number_numbers channel notes by layout segment floor is n = record {
   rise = n.rise;
   taken = each_implied _ _ (λ s h. taken_more channel layout.taken s.number h) layout.segments n.taken;
   begun = begun_push layout.begun (record { number = segment; by = by; floor = floor; at = length notes + 1 }) n.begun
       (each_implied (λ b. IsFresh channel layout b.number) (λ b. b.number < segment) (λ b h. let low : b.number < number_at channel layout.taken = taken_low channel layout.taken b.number h.0 in omega arith) layout.begun n.fresh);
-  fresh = each-append (λ b. IsFresh channel (numbered notes by layout segment floor) b.number) layout.begun (record { number = segment; by = by; floor = floor; at = length notes + 1 } ∷ [])
-      (each_implied (λ b. IsFresh channel layout b.number) (λ b. IsFresh channel (numbered notes by layout segment floor) b.number) (λ b h. (taken_more channel layout.taken b.number h.0, h.1)) layout.begun n.fresh) (
+  fresh = each-append (λ b. IsFresh channel (after_number notes by layout segment floor) b.number) layout.begun (record { number = segment; by = by; floor = floor; at = length notes + 1 } ∷ [])
+      (each_implied (λ b. IsFresh channel layout b.number) (λ b. IsFresh channel (after_number notes by layout segment floor) b.number) (λ b h. (taken_more channel layout.taken b.number h.0, h.1)) layout.begun n.fresh) (
         (
           subst (IsTaken channel (layout.taken + 1)) (sym is) (taken_last channel layout.taken),
           each_implied (λ s. IsTaken channel layout.taken s.number) (λ s. s.number ≢ segment) (λ s h same. let low : s.number < number_at channel layout.taken = taken_low channel layout.taken s.number h in absurd (omega arith)) layout.segments n.taken,
@@ -131,12 +131,12 @@ number_numbers channel notes by layout segment floor is n = record {
 }
 
 -- the merge that was begun with a number
-pub record Found (P : Begun → Type 0) (by number : ℕ) (b : Begun) : Type 0 where
+pub record Found (P : BegunMerge → Type 0) (by number : ℕ) (b : BegunMerge) : Type 0 where
   pub is : b.number ≡ number
   pub own : b.by ≡ by
   pub fact : P b
 
-pub found : (P : Begun → Type 0) (by number : ℕ) (begun : List Begun) (b : Begun) → AllByRecursion P begun → find (λ c. nat_eq c.number number && nat_eq c.by by) begun ≡ Some b → Found P by number b
+pub found : (P : BegunMerge → Type 0) (by number : ℕ) (begun : List BegunMerge) (b : BegunMerge) → AllByRecursion P begun → find (λ c. nat_eq c.number number && nat_eq c.by by) begun ≡ Some b → Found P by number b
 found P by number [] b a f = cc
 found P by number (c ∷ begun) b a f = elim (nat_eq c.number number && nat_eq c.by by) as (λ t. (nat_eq c.number number && nat_eq c.by by) ≡ t → cond t (Some c) (find (λ d. nat_eq d.number number && nat_eq d.by by) begun) ≡ Some b → Found P by number b) [
   | true ↦ λ e g.
@@ -147,17 +147,17 @@ found P by number (c ∷ begun) b a f = elim (nat_eq c.number number && nat_eq c
 ] refl f
 
 module _ (channel : Channel) (notes : List Note) (by : ℕ) (layout : Layout) (sources : List ℕ) (node : ℕ) (n : Numbered channel layout) where
-  others_fresh : (begun : List Begun) → AllByRecursion (λ b. IsFresh channel layout b.number) begun → AllByRecursion (λ b. IsFresh channel (with_segments layout (others_in sources layout.segments)) b.number) begun
+  others_fresh : (begun : List BegunMerge) → AllByRecursion (λ b. IsFresh channel layout b.number) begun → AllByRecursion (λ b. IsFresh channel (with_segments layout (others_in sources layout.segments)) b.number) begun
   others_fresh begun a = each_implied (λ b. IsFresh channel layout b.number) (λ b. IsFresh channel (with_segments layout (others_in sources layout.segments)) b.number)
       (λ b h. (h.0, each_filter (λ s. s.number ≢ b.number) (λ s. not (is_among sources s)) layout.segments h.1)) begun a
 
-  product_numbers : (number : ℕ) (o : Option Begun) → begun_as layout by number ≡ o → is_begun notes layout sources o ≡ true
-      → Numbered channel (record { tail = layout.tail; segments = with_product notes layout sources node o (others_in sources layout.segments); begun = without number layout.begun; taken = layout.taken })
+  product_numbers : (number : ℕ) (o : Option BegunMerge) → begun_merge layout by number ≡ o → keeps_rows notes layout sources o ≡ true
+      → Numbered channel (record { tail = layout.tail; segments = with_merged notes layout sources node o (others_in sources layout.segments); begun = without_begun number layout.begun; taken = layout.taken })
   product_numbers number None e ok = absurd (false≢true ok)
   product_numbers number (Some b) e ok =
       let f = found (λ c. IsFresh channel layout c.number) by number layout.begun b n.fresh e in
       let others : List Segment = others_in sources layout.segments in
-      let s : Segment = record { number = b.number; piece = product notes layout sources b; homes = Node node ∷ [] } in
+      let s : Segment = record { number = b.number; piece = merged_piece notes layout sources b; homes = Node node ∷ [] } in
       record {
         rise = rise_with s others (rise_filter (λ z. not (is_among sources z)) layout.segments n.rise) (each_filter (λ z. z.number ≢ b.number) (λ z. not (is_among sources z)) layout.segments f.fact.1);
         taken = each_with_segment (λ z. IsTaken channel layout.taken z.number) s others f.fact.0 (each_filter (λ z. IsTaken channel layout.taken z.number) (λ z. not (is_among sources z)) layout.segments n.taken);
@@ -165,31 +165,31 @@ module _ (channel : Channel) (notes : List Note) (by : ℕ) (layout : Layout) (s
         fresh = left b.number f.is layout.begun n.fresh;
       }
     where
-      left : (given : ℕ) → given ≡ number → (begun : List Begun) → AllByRecursion (λ c. IsFresh channel layout c.number) begun
-          → AllByRecursion (λ c. IsTaken channel layout.taken c.number × AllByRecursion (λ z. z.number ≢ c.number) (with_segment (record { number = given; piece = product notes layout sources b; homes = Node node ∷ [] }) (others_in sources layout.segments))) (without number begun)
+      left : (given : ℕ) → given ≡ number → (begun : List BegunMerge) → AllByRecursion (λ c. IsFresh channel layout c.number) begun
+          → AllByRecursion (λ c. IsTaken channel layout.taken c.number × AllByRecursion (λ z. z.number ≢ c.number) (with_segment (record { number = given; piece = merged_piece notes layout sources b; homes = Node node ∷ [] }) (others_in sources layout.segments))) (without_begun number begun)
       left given is [] a = tt
-      left given is (c ∷ begun) a = elim (nat_eq c.number number) as (λ t. nat_eq c.number number ≡ t → AllByRecursion (λ d. IsTaken channel layout.taken d.number × AllByRecursion (λ z. z.number ≢ d.number) (with_segment (record { number = given; piece = product notes layout sources b; homes = Node node ∷ [] }) (others_in sources layout.segments))) (cond (not t) (c ∷ without number begun) (without number begun))) [
+      left given is (c ∷ begun) a = elim (nat_eq c.number number) as (λ t. nat_eq c.number number ≡ t → AllByRecursion (λ d. IsTaken channel layout.taken d.number × AllByRecursion (λ z. z.number ≢ d.number) (with_segment (record { number = given; piece = merged_piece notes layout sources b; homes = Node node ∷ [] }) (others_in sources layout.segments))) (cond (not t) (c ∷ without_begun number begun) (without_begun number begun))) [
         | true ↦ λ q. left given is begun a.1
         | false ↦ λ q.
             let ne = eqb-false c.number number q in
-            ((a.0.0, each_with_segment (λ z. z.number ≢ c.number) (record { number = given; piece = product notes layout sources b; homes = Node node ∷ [] }) (others_in sources layout.segments) (λ same. ne (sym same ∙ is)) (each_filter (λ z. z.number ≢ c.number) (λ z. not (is_among sources z)) layout.segments a.0.1)), left given is begun a.1)
+            ((a.0.0, each_with_segment (λ z. z.number ≢ c.number) (record { number = given; piece = merged_piece notes layout sources b; homes = Node node ∷ [] }) (others_in sources layout.segments) (λ same. ne (sym same ∙ is)) (each_filter (λ z. z.number ≢ c.number) (λ z. not (is_among sources z)) layout.segments a.0.1)), left given is begun a.1)
       ] refl
 
-  merge_numbers : (segment : Option ℕ) → is_product notes by layout sources segment ≡ true → Numbered channel (merged notes by layout sources segment node)
+  merge_numbers : (segment : Option ℕ) → is_product notes by layout sources segment ≡ true → Numbered channel (after_merge notes by layout sources segment node)
   merge_numbers None ok = record {
     rise = rise_filter (λ z. not (is_among sources z)) layout.segments n.rise;
     taken = each_filter (λ z. IsTaken channel layout.taken z.number) (λ z. not (is_among sources z)) layout.segments n.taken;
     begun = n.begun;
     fresh = others_fresh layout.begun n.fresh;
   }
-  merge_numbers (Some number) ok = product_numbers number (begun_as layout by number) refl ok
+  merge_numbers (Some number) ok = product_numbers number (begun_merge layout by number) refl ok
 
-pub note_numbers : (channel : Channel) (notes : List Note) (by : ℕ) (layout : Layout) (kind : Kind) → is_allowed channel notes by layout kind ≡ true → Numbered channel layout → Numbered channel (laid_by channel notes by layout kind)
+pub note_numbers : (channel : Channel) (notes : List Note) (by : ℕ) (layout : Layout) (kind : Kind) → is_allowed channel notes by layout kind ≡ true → Numbered channel layout → Numbered channel (layout_after channel notes by layout kind)
 note_numbers channel notes by layout (Put ts how row) ok n = row_numbers channel layout (effective_put notes ts.0 how row) n
 note_numbers channel notes by layout (Seal ts) ok n = seal_numbers channel layout n
 note_numbers channel notes by layout (Number segment floor) ok n = number_numbers channel notes by layout segment floor.0 (eqb-true segment (number_at channel layout.taken) ok) n
-note_numbers channel notes by layout (Load segment node) ok n = rehome_numbers channel layout segment (loaded node) n
-note_numbers channel notes by layout (Release segment node) ok n = rehome_numbers channel layout segment (released node) n
+note_numbers channel notes by layout (Load segment node) ok n = rehome_numbers channel layout segment (homes_after_load node) n
+note_numbers channel notes by layout (Release segment node) ok n = rehome_numbers channel layout segment (homes_after_release node) n
 note_numbers channel notes by layout (Merge sources segment node) ok n =
     let parts = merge_allowed channel notes by layout sources segment node ok in
     merge_numbers channel notes by layout sources node n segment parts.own

@@ -6,8 +6,9 @@ use Rattle.std.proofs.lemmas.List.{map-append}
 use Rattle.journal_model.specs.declared.notes.Note.{Note}
 use Rattle.log_model.specs.Places.{Placed}
 use Rattle.journal_model.specs.Puts.{put_at, is_dead_by}
-use Rattle.journal_model.specs.Layouts.{Segment, insert_by, rising_by, rows_in, is_kept, kept}
-use Rattle.journal_model.specs.Views.{joined, Shown, shown, StandsFor, advanced, merged_parts}
+use Rattle.journal_model.specs.Layouts.{Segment, rows_in, is_kept, kept_in}
+use Rattle.journal_model.specs.Lists.{insert_by, rising_by, joined}
+use Rattle.journal_model.specs.Views.{Shown, shown, StandsFor, advanced, merged_parts}
 use Rattle.journal_model.specs.Runs.{AreCorrect}
 use Rattle.journal_model.proofs.PutLaws.{dead_at-append, put_within}
 
@@ -48,7 +49,7 @@ rows_in-joined [] = refl
 rows_in-joined (s ∷ segments) = ap (λ l. s.piece ++ l) (rows_in-joined segments)
 
 -- the merge of the parts of some segments stands for the piece that a merge of the segments keeps
-pub merge_stands : (notes : List Note) (floor : ℕ) (segments : List Segment) → StandsFor notes (merged_parts floor (map (λ s. map (shown notes) s.piece) segments)) (kept notes floor segments)
+pub merge_stands : (notes : List Note) (floor : ℕ) (segments : List Segment) → StandsFor notes (merged_parts floor (map (λ s. map (shown notes) s.piece) segments)) (kept_in notes floor segments)
 merge_stands notes floor segments =
     ap (λ l. rising_by (λ (s : Shown). s.position) (filter (λ s. not (is_dead_by floor s.mark)) l)) (parts segments)
     ∙ ap (rising_by (λ (s : Shown). s.position)) (filter-map (shown notes) (λ s. not (is_dead_by floor s.mark)) (rows_in segments))

@@ -6,7 +6,7 @@ use Rattle.std.proofs.lemmas.Bool.{cases_lt}
 use Rattle.journal_model.specs.declared.notes.Home.{Home}
 use Rattle.log_model.specs.Places.{Placed}
 use Rattle.journal_model.specs.Layouts.{Segment, with_homes, rehome, rows_in, put_in, by_position, with_segment}
-use Rattle.journal_model.specs.Views.{IsIn}
+use Rattle.journal_model.specs.Lists.{IsIn}
 use Rattle.journal_model.specs.Runs.{AreApart, Rise}
 use Rattle.journal_model.proofs.ListLaws.{in_left, in_right, in_cases, all_in, all_from, count-append, count-cons, count_some}
 

@@ -6,11 +6,12 @@ use Rattle.std.proofs.lemmas.List.Sums.{length-filter, sum_by-cons}
 use Rattle.journal_model.specs.declared.notes.Note.{Note}
 use Rattle.journal_model.specs.Notes.{ts_of}
 use Rattle.journal_model.specs.Journals.{UpTo, AreUpTo, is_next, IsJournal}
-use Rattle.log_model.specs.Places.{Placed}
-use Rattle.journal_model.specs.Puts.{put_at, index_of, IsAlive}
-use Rattle.journal_model.specs.Layouts.{Channel, Segment, rows_in, put_in, by_position, is_kept, kept}
-use Rattle.journal_model.specs.Counts.{kept_rows}
+use Rattle.journal_model.specs.Puts.{put_at, IsAlive}
+use Rattle.journal_model.specs.Tables.{index_of}
+use Rattle.journal_model.specs.Layouts.{Channel, Segment, rows_in, put_in, by_position, is_kept, kept_in}
 use Rattle.journal_model.specs.Runs.{IsSound}
+use Rattle.journal_model.specs.Counts.{kept_rows}
+use Rattle.log_model.specs.Places.{Placed}
 use Rattle.journal_model.proofs.WalkLaws.{by_each}
 use Rattle.journal_model.proofs.OrderLaws.{follow_up_to, next_follows}
 use Rattle.journal_model.proofs.PutLaws.{put_at_past}
@@ -70,7 +71,7 @@ count_rows notes floor (s ∷ segments) =
     ∙ sym (sum_by-cons (kept_rows notes floor) s segments)
 
 -- a merge has as many rows as its sources keep
-pub length-kept : (notes : List Note) (floor : ℕ) (segments : List Segment) → length (kept notes floor segments) ≡ sum_by (kept_rows notes floor) segments
+pub length-kept : (notes : List Note) (floor : ℕ) (segments : List Segment) → length (kept_in notes floor segments) ≡ sum_by (kept_rows notes floor) segments
 length-kept notes floor segments =
     length-by_position (filter (is_kept notes floor) (rows_in segments))
     ∙ length-filter (is_kept notes floor) (rows_in segments)
@@ -78,4 +79,6 @@ length-kept notes floor segments =
 
 -- a channel with no notes is sound
 pub start_sound : (channel : Channel) → IsSound channel (record { notes = []; floor = 0 })
-start_sound channel = record { journal = tt; lawful = tt; floors = tt; floor = omega arith; held = nothing_held channel 0; numbered = nothing_numbered channel }
+start_sound channel =
+    let h = nothing_held channel 0 in
+    record { journal = tt; lawful = tt; floors = tt; floor = omega arith; rows = h.rows; segments = h.segments; tail = h.tail }

@@ -7,8 +7,8 @@ use Rattle.std.proofs.lemmas.Bool.{cases_lt, cases_eq}
 use Rattle.journal_model.specs.declared.notes.Note.{Note}
 use Rattle.log_model.specs.Places.{Placed}
 use Rattle.journal_model.specs.Puts.{effective, put_at, first_end, death, is_dead_by}
-use Rattle.journal_model.specs.Views.{IsIn}
-use Rattle.journal_model.specs.Runs.{Stand}
+use Rattle.journal_model.specs.Lists.{IsIn}
+use Rattle.journal_model.specs.Runs.{IsConsistent}
 use Rattle.journal_model.proofs.PutLaws.{put_at-append, put_at-new, put_within, dead_at-append, dead_at_past}
 use Rattle.journal_model.proofs.IndexLaws.{put_cases, effective_position}
 use Rattle.journal_model.proofs.ListLaws.{in_left, in_right, in_cases, count-push, count_none}
@@ -50,7 +50,7 @@ one_position x rows p low one = ⊎_elim
 
 module _ (notes : List Note) (floor : ℕ) where
   -- a note more, and the row that it adds, if any
-  pub rows_added : (note : Note) (rows : List Placed) → Stand notes floor rows → Stand (notes ++ note ∷ []) floor (rows ++ option_to_list (effective notes note.kind))
+  pub rows_added : (note : Note) (rows : List Placed) → IsConsistent notes floor rows → IsConsistent (notes ++ note ∷ []) floor (rows ++ option_to_list (effective notes note.kind))
   rows_added note rows s = record {
     correct = λ x h. ⊎_elim
         (λ old. put_at-append notes (note ∷ []) x.position (put_within notes x x.position (s.correct x old)) ∙ s.correct x old)
@@ -76,7 +76,7 @@ module _ (notes : List Note) (floor : ℕ) where
   -- other rows: each of them among the old ones, each old one that is not dead at the floor among them, and none more often
   pub rows_from : (rows fewer : List Placed) → ((x : Placed) → IsIn x fewer → IsIn x rows) → ((x : Placed) → IsIn x rows → is_dead_by floor (death notes x) ≡ false → IsIn x fewer)
       → ((p : ℕ) → count_by (λ x. nat_eq x.position p) fewer ≤ count_by (λ x. nat_eq x.position p) rows)
-      → Stand notes floor rows → Stand notes floor fewer
+      → IsConsistent notes floor rows → IsConsistent notes floor fewer
   rows_from rows fewer among there counts s = record {
     correct = λ x h. s.correct x (among x h);
     cover = λ x put alive. there x (s.cover x put alive) alive;

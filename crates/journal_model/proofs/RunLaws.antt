@@ -11,11 +11,12 @@ use Rattle.journal_model.specs.declared.notes.Kind.TheVariants.{Number}
 use Rattle.journal_model.specs.declared.notes.Note.{Note}
 use Rattle.journal_model.specs.Notes.{tick_after, tick_of}
 use Rattle.journal_model.specs.Journals.{is_next, IsJournal}
-use Rattle.log_model.specs.Places.{Placed}
 use Rattle.journal_model.specs.Layouts.{Channel, Segment, Layout, rows_in, layout_of}
 use Rattle.journal_model.specs.Lawful.{is_lawful, IsLawful}
-use Rattle.journal_model.specs.Views.{IsIn, joined, shown, ShowsLive, IsExact, copies, places, view_of}
-use Rattle.journal_model.specs.Runs.{AreHomes, IsSegment, IsFloorUpTo, FloorsUpTo, State, Act, Append, Raise, is_timely, is_step, happens, run, IsSound}
+use Rattle.journal_model.specs.Lists.{IsIn, joined}
+use Rattle.journal_model.specs.Views.{shown, ShowsLive, IsExact, copies, places, view_of}
+use Rattle.journal_model.specs.Runs.{AreHomes, IsSegment, IsFloorUpTo, FloorsUpTo, State, Act, Append, Raise, is_timely, is_step, after_act, run, IsSound}
+use Rattle.log_model.specs.Places.{Placed}
 use Rattle.journal_model.proofs.WalkLaws.{each-snoc}
 use Rattle.journal_model.proofs.NoteLaws.{tick_of-snoc}
 use Rattle.journal_model.proofs.ViewLaws.{view_shows, view_stays, tick_follows, goes_on}
@@ -56,16 +57,15 @@ joined-map f (x ∷ xs) = ap (λ l. map f x ++ l) (joined-map f xs) ∙ sym (map
 pub look_shows : (channel : Channel) (s : State) → IsSound channel s → ShowsLive s.notes (view_of channel s.floor s.notes)
 look_shows channel s sound =
     let layout : Layout = layout_of channel s.notes in
-    let h = sound.held in
     view_shows s.notes (view_of channel s.floor s.notes) (layout.tail ++ joined (places layout.segments)) sound.journal
-    (λ x i. h.stand.correct x (⊎_elim
+    (λ x i. sound.rows.correct x (⊎_elim
     (λ t. in_right x (rows_in layout.segments) layout.tail t)
     (λ p. in_left x (rows_in layout.segments) layout.tail (out_places x layout.segments p))
     (in_cases x layout.tail (joined (places layout.segments)) i)))
     (λ x put alive. ⊎_elim
-    (λ l. in_right x layout.tail (joined (places layout.segments)) (in_places x layout.segments h.segments l))
+    (λ l. in_right x layout.tail (joined (places layout.segments)) (in_places x layout.segments sound.segments l))
     (λ t. in_left x layout.tail (joined (places layout.segments)) t)
-    (in_cases x (rows_in layout.segments) layout.tail (h.stand.cover x put alive)))
+    (in_cases x (rows_in layout.segments) layout.tail (sound.rows.cover x put alive)))
     (joined-map (shown s.notes) (layout.tail ∷ places layout.segments))
 
 -- ---- steps
@@ -78,6 +78,12 @@ floors_weaker : (low high : ℕ) (kind : Kind) → low ≤ high → IsFloorUpTo 
 floors_weaker low high (Number segment begun) h f = omega arith
 floors_weaker low high _ h f = tt
 
+-- what a lawful journal's layout adds to its state
+sound_from : (channel : Channel) (s : State) → IsJournal s.notes → IsLawful channel s.notes → FloorsUpTo s.floor s.notes → s.floor ≤ tick_of s.notes → IsSound channel s
+sound_from channel s journal lawful floors floor =
+    let h = held channel s.floor s.notes lawful floors in
+    record { journal = journal; lawful = lawful; floors = floors; floor = floor; rows = h.rows; segments = h.segments; tail = h.tail }
+
 pub append_sound : (channel : Channel) (s : State) (note : Note) → IsSound channel s → is_step channel s note ≡ true → IsSound channel (record { notes = s.notes ++ note ∷ []; floor = s.floor })
 append_sound channel s note sound ok =
     let parts = and_parts (is_next s.notes note) (is_lawful channel s.notes note && is_timely s.floor note.kind) ok in
@@ -87,19 +93,12 @@ append_sound channel s note sound ok =
     let tick : tick_of (s.notes ++ note ∷ []) ≡ tick_after (tick_of s.notes) note.kind = tick_of-snoc s.notes note in
     let rises : tick_of s.notes ≤ tick_after (tick_of s.notes) note.kind = tick_follows s.notes note parts.0 in
     let old = sound.floor in
-    record {
-      journal = each-snoc (λ before n. is_next before n ≡ true) s.notes note sound.journal parts.0;
-      lawful = lawful;
-      floors = floors;
-      floor = omega arith;
-      held = held channel s.floor (s.notes ++ note ∷ []) lawful floors;
-      numbered = numbers channel (s.notes ++ note ∷ []) lawful;
-    }
+    sound_from channel (record { notes = s.notes ++ note ∷ []; floor = s.floor }) (each-snoc (λ before n. is_next before n ≡ true) s.notes note sound.journal parts.0) lawful floors (omega arith)
 
 pub raise_sound : (channel : Channel) (s : State) (floor : ℕ) → IsSound channel s → s.floor ≤ floor → floor ≤ tick_of s.notes → IsSound channel (record { notes = s.notes; floor = floor })
 raise_sound channel s floor sound low high =
     let floors : FloorsUpTo floor s.notes = each_implied (λ n. IsFloorUpTo s.floor n.kind) (λ n. IsFloorUpTo floor n.kind) (λ n f. floors_weaker s.floor floor n.kind low f) s.notes sound.floors in
-    record { journal = sound.journal; lawful = sound.lawful; floors = floors; floor = high; held = held channel floor s.notes sound.lawful floors; numbered = sound.numbered }
+    sound_from channel (record { notes = s.notes; floor = floor }) sound.journal sound.lawful floors high
 
 -- a state that came from another by steps
 pub record Later (channel : Channel) (s t : State) : Type 0 where
@@ -110,7 +109,7 @@ pub record Later (channel : Channel) (s t : State) : Type 0 where
 stays : (channel : Channel) (s : State) → IsSound channel s → Later channel s s
 stays channel s sound = record { sound = sound; more = []; is = sym (append-nil s.notes) }
 
-step_later : (channel : Channel) (s : State) (act : Act) → IsSound channel s → Later channel s (happens channel s act)
+step_later : (channel : Channel) (s : State) (act : Act) → IsSound channel s → Later channel s (after_act channel s act)
 step_later channel s (Append note) sound = elim (is_step channel s note) as (λ b. is_step channel s note ≡ b → Later channel s (cond b (record { notes = s.notes ++ note ∷ []; floor = s.floor }) s)) [
   | true ↦ λ e. record { sound = append_sound channel s note sound e; more = note ∷ []; is = refl }
   | false ↦ λ e. stays channel s sound
@@ -126,7 +125,7 @@ pub run_later : (channel : Channel) (s : State) (acts : List Act) → IsSound ch
 run_later channel s [] sound = stays channel s sound
 run_later channel s (act ∷ acts) sound =
     let first = step_later channel s act sound in
-    let rest = run_later channel (happens channel s act) acts first.sound in
+    let rest = run_later channel (after_act channel s act) acts first.sound in
     record { sound = rest.sound; more = first.more ++ rest.more; is = rest.is ∙ ap (λ l. l ++ rest.more) first.is ∙ append_assoc s.notes first.more rest.more }
 
 pub run_sound : (channel : Channel) (s : State) (acts : List Act) → IsSound channel s → IsSound channel (run channel s acts)

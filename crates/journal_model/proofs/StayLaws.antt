@@ -12,10 +12,11 @@ use Rattle.journal_model.specs.declared.notes.Kind.TheVariants.{Put, Seal, Numbe
 use Rattle.journal_model.specs.declared.notes.Note.{Note}
 use Rattle.log_model.specs.Places.{Placed}
 use Rattle.journal_model.specs.Puts.{effective_put}
-use Rattle.journal_model.specs.Layouts.{Channel, Segment, Begun, Layout, number_at, waiting, closed, with_tail, with_row, sealed, loaded, released, with_homes, rehome, with_segments, rows_in, is_among, sources_in, others_in, by_position, is_kept, kept, product, begun_as, with_product, merged, numbered, laid_by, layout_of}
+use Rattle.journal_model.specs.Layouts.{Channel, Segment, BegunMerge, Layout, number_at, waiting_segment, after_boundary, with_tail, with_row, after_seal, homes_after_load, homes_after_release, with_homes, rehome, with_segments, rows_in, is_among, sources_in, others_in, by_position, is_kept, kept_in, merged_piece, begun_merge, with_merged, after_merge, after_number, layout_after, layout_of}
 use Rattle.journal_model.specs.Lawful.{is_there, is_allowed, is_lawful, IsLawful}
-use Rattle.journal_model.specs.Views.{IsIn}
-use Rattle.journal_model.specs.Runs.{Rise, NumbersRise, IsTaken, IsFresh, FloorsUpTo}
+use Rattle.journal_model.specs.Lists.{IsIn}
+use Rattle.journal_model.specs.Runs.{Rise, FloorsUpTo}
+use Rattle.journal_model.specs.Invariants.{NumbersRise, IsTaken, IsFresh}
 use Rattle.journal_model.proofs.WalkLaws.{by_snoc, each-parts, each-front}
 use Rattle.journal_model.proofs.ListLaws.{in_left, in_right, in_cases, in_filter, out_filter, all_in}
 use Rattle.journal_model.proofs.PieceLaws.{each_filter, each_with_segment, by_position_in, in_by_position}
@@ -50,9 +51,9 @@ pub record Keeps (channel : Channel) (number : ℕ) (piece : List Placed) (layou
   pub taken : IsTaken channel layout.taken number
 
 module _ (channel : Channel) (number : ℕ) (piece : List Placed) where
-  close_stays : (layout : Layout) (rows : List Placed) → Keeps channel number piece layout → Keeps channel number piece (closed channel layout rows)
+  close_stays : (layout : Layout) (rows : List Placed) → Keeps channel number piece layout → Keeps channel number piece (after_boundary channel layout rows)
   close_stays layout rows k = record {
-    pieces = each-append (λ s. s.number ≡ number → s.piece ≡ piece) layout.segments (waiting (number_at channel layout.taken) rows ∷ []) k.pieces
+    pieces = each-append (λ s. s.number ≡ number → s.piece ≡ piece) layout.segments (waiting_segment (number_at channel layout.taken) rows ∷ []) k.pieces
         ((λ same. let low : number < number_at channel layout.taken = taken_low channel layout.taken number k.taken in absurd (omega arith)), tt);
     begun = k.begun;
     taken = taken_more channel layout.taken number k.taken;
@@ -60,13 +61,13 @@ module _ (channel : Channel) (number : ℕ) (piece : List Placed) where
 
   row_stays : (layout : Layout) (o : Option Placed) → Keeps channel number piece layout → Keeps channel number piece (with_row channel layout o)
   row_stays layout None k = k
-  row_stays layout (Some x) k = elim (nat_le channel.seal_rows (length (layout.tail ++ x ∷ []))) as (λ b. Keeps channel number piece (cond b (closed channel layout (layout.tail ++ x ∷ [])) (with_tail layout (layout.tail ++ x ∷ [])))) [
+  row_stays layout (Some x) k = elim (nat_eq (length (layout.tail ++ x ∷ [])) channel.seal_rows) as (λ b. Keeps channel number piece (cond b (after_boundary channel layout (layout.tail ++ x ∷ [])) (with_tail layout (layout.tail ++ x ∷ [])))) [
     | true ↦ close_stays layout (layout.tail ++ x ∷ []) k
     | false ↦ record { pieces = k.pieces; begun = k.begun; taken = k.taken }
   ]
 
-  seal_stays : (layout : Layout) → Keeps channel number piece layout → Keeps channel number piece (sealed channel layout)
-  seal_stays layout k = elim (nat_eq (length layout.tail) 0) as (λ b. Keeps channel number piece (cond b layout (closed channel layout layout.tail))) [
+  seal_stays : (layout : Layout) → Keeps channel number piece layout → Keeps channel number piece (after_seal channel layout)
+  seal_stays layout k = elim (nat_eq (length layout.tail) 0) as (λ b. Keeps channel number piece (cond b layout (after_boundary channel layout layout.tail))) [
     | true ↦ k
     | false ↦ close_stays layout layout.tail k
   ]
@@ -81,7 +82,7 @@ module _ (channel : Channel) (number : ℕ) (piece : List Placed) where
   rehome_stays : (layout : Layout) (n : ℕ) (change : List Home → List Home) → Keeps channel number piece layout → Keeps channel number piece (with_segments layout (rehome n change layout.segments))
   rehome_stays layout n change k = record { pieces = rehome_pieces n change layout.segments k.pieces; begun = k.begun; taken = k.taken }
 
-  number_stays : (notes : List Note) (by : ℕ) (layout : Layout) (segment floor : ℕ) → segment ≡ number_at channel layout.taken → Keeps channel number piece layout → Keeps channel number piece (numbered notes by layout segment floor)
+  number_stays : (notes : List Note) (by : ℕ) (layout : Layout) (segment floor : ℕ) → segment ≡ number_at channel layout.taken → Keeps channel number piece layout → Keeps channel number piece (after_number notes by layout segment floor)
   number_stays notes by layout segment floor is k = record {
     pieces = k.pieces;
     begun = each-append (λ b. b.number ≢ number) layout.begun (record { number = segment; by = by; floor = floor; at = length notes + 1 } ∷ []) k.begun
@@ -89,28 +90,28 @@ module _ (channel : Channel) (number : ℕ) (piece : List Placed) where
     taken = taken_more channel layout.taken number k.taken;
   }
 
-  product_stays : (notes : List Note) (by : ℕ) (layout : Layout) (sources : List ℕ) (n node : ℕ) (o : Option Begun) → begun_as layout by n ≡ o → Keeps channel number piece layout
-      → AllByRecursion (λ s. s.number ≡ number → s.piece ≡ piece) (with_product notes layout sources node o (others_in sources layout.segments))
+  product_stays : (notes : List Note) (by : ℕ) (layout : Layout) (sources : List ℕ) (n node : ℕ) (o : Option BegunMerge) → begun_merge layout by n ≡ o → Keeps channel number piece layout
+      → AllByRecursion (λ s. s.number ≡ number → s.piece ≡ piece) (with_merged notes layout sources node o (others_in sources layout.segments))
   product_stays notes by layout sources n node None e k = each_filter (λ s. s.number ≡ number → s.piece ≡ piece) (λ s. not (is_among sources s)) layout.segments k.pieces
   product_stays notes by layout sources n node (Some b) e k =
       let f = found (λ c. c.number ≢ number) by n layout.begun b k.begun e in
-      each_with_segment (λ s. s.number ≡ number → s.piece ≡ piece) (record { number = b.number; piece = product notes layout sources b; homes = Node node ∷ [] }) (others_in sources layout.segments)
+      each_with_segment (λ s. s.number ≡ number → s.piece ≡ piece) (record { number = b.number; piece = merged_piece notes layout sources b; homes = Node node ∷ [] }) (others_in sources layout.segments)
       (λ same. absurd (f.fact same)) (each_filter (λ s. s.number ≡ number → s.piece ≡ piece) (λ s. not (is_among sources s)) layout.segments k.pieces)
 
-  merge_stays : (notes : List Note) (by : ℕ) (layout : Layout) (sources : List ℕ) (segment : Option ℕ) (node : ℕ) → Keeps channel number piece layout → Keeps channel number piece (merged notes by layout sources segment node)
+  merge_stays : (notes : List Note) (by : ℕ) (layout : Layout) (sources : List ℕ) (segment : Option ℕ) (node : ℕ) → Keeps channel number piece layout → Keeps channel number piece (after_merge notes by layout sources segment node)
   merge_stays notes by layout sources None node k = record { pieces = each_filter (λ s. s.number ≡ number → s.piece ≡ piece) (λ s. not (is_among sources s)) layout.segments k.pieces; begun = k.begun; taken = k.taken }
   merge_stays notes by layout sources (Some n) node k = record {
-    pieces = product_stays notes by layout sources n node (begun_as layout by n) refl k;
+    pieces = product_stays notes by layout sources n node (begun_merge layout by n) refl k;
     begun = each_filter (λ b. b.number ≢ number) (λ b. not (nat_eq b.number n)) layout.begun k.begun;
     taken = k.taken;
   }
 
-  note_stays : (notes : List Note) (by : ℕ) (layout : Layout) (kind : Kind) → is_allowed channel notes by layout kind ≡ true → Keeps channel number piece layout → Keeps channel number piece (laid_by channel notes by layout kind)
+  note_stays : (notes : List Note) (by : ℕ) (layout : Layout) (kind : Kind) → is_allowed channel notes by layout kind ≡ true → Keeps channel number piece layout → Keeps channel number piece (layout_after channel notes by layout kind)
   note_stays notes by layout (Put ts how row) ok k = row_stays layout (effective_put notes ts.0 how row) k
   note_stays notes by layout (Seal ts) ok k = seal_stays layout k
   note_stays notes by layout (Number segment floor) ok k = number_stays notes by layout segment floor.0 (eqb-true segment (number_at channel layout.taken) ok) k
-  note_stays notes by layout (Load segment node) ok k = rehome_stays layout segment (loaded node) k
-  note_stays notes by layout (Release segment node) ok k = rehome_stays layout segment (released node) k
+  note_stays notes by layout (Load segment node) ok k = rehome_stays layout segment (homes_after_load node) k
+  note_stays notes by layout (Release segment node) ok k = rehome_stays layout segment (homes_after_release node) k
   note_stays notes by layout (Merge sources segment node) ok k = merge_stays notes by layout sources segment node k
   note_stays notes by layout _ ok k = k
 
@@ -184,31 +185,31 @@ there_is number (s ∷ segments) any = ⊎_elim
     (or_cases (nat_eq s.number number) (list_any (λ z. nat_eq z.number number) segments) any)
 
 -- what a merge keeps is the same list from its beginning to its commit
-pub product_same : (channel : Channel) (floor : ℕ) (notes more : List Note) (sources : List ℕ) (b : Begun) → IsLawful channel (notes ++ more) → FloorsUpTo floor (notes ++ more) → FloorsUpTo floor notes → b.at ≤ length notes
+pub product_same : (channel : Channel) (floor : ℕ) (notes more : List Note) (sources : List ℕ) (b : BegunMerge) → IsLawful channel (notes ++ more) → FloorsUpTo floor (notes ++ more) → FloorsUpTo floor notes → b.at ≤ length notes
     → list_all (is_there (layout_of channel notes)) sources ≡ true → list_all (is_there (layout_of channel (notes ++ more))) sources ≡ true
-    → product (notes ++ more) (layout_of channel (notes ++ more)) sources b ≡ product notes (layout_of channel notes) sources b
+    → merged_piece (notes ++ more) (layout_of channel (notes ++ more)) sources b ≡ merged_piece notes (layout_of channel notes) sources b
 product_same channel floor notes more sources b lawful floors low within there still =
     let front : IsLawful channel notes = each-front (λ before note. is_lawful channel before note ≡ true) notes more lawful in
     let old : Layout = layout_of channel notes in
     let new : Layout = layout_of channel (notes ++ more) in
     let cut : take b.at (notes ++ more) ≡ take b.at notes = take-append-le b.at notes more within in
-    ap (λ l. kept l b.floor (sources_in sources (layout_of channel (notes ++ more)).segments)) cut
-    ∙ rise_same (kept (take b.at notes) b.floor (sources_in sources (layout_of channel (notes ++ more)).segments)) (product notes (layout_of channel notes) sources b)
-    (subst (λ l. Rise (kept l b.floor (sources_in sources (layout_of channel (notes ++ more)).segments))) cut (product_rises (notes ++ more) floor (layout_of channel (notes ++ more)) sources (held channel floor (notes ++ more) lawful floors) b))
+    ap (λ l. kept_in l b.floor (sources_in sources (layout_of channel (notes ++ more)).segments)) cut
+    ∙ rise_same (kept_in (take b.at notes) b.floor (sources_in sources (layout_of channel (notes ++ more)).segments)) (merged_piece notes (layout_of channel notes) sources b)
+    (subst (λ l. Rise (kept_in l b.floor (sources_in sources (layout_of channel (notes ++ more)).segments))) cut (product_rises (notes ++ more) floor (layout_of channel (notes ++ more)) sources (held channel floor (notes ++ more) lawful floors) b))
     (product_rises notes floor (layout_of channel notes) sources (held channel floor notes front low) b)
     (λ x i. back front cut x i) (λ x i. forth front x i)
   where
     swap : (p : Placed → Bool) (x : Placed) (xs ys : List Placed) → (IsIn x xs → IsIn x ys) → IsIn x (by_position (filter p xs)) → IsIn x (by_position (filter p ys))
     swap p x xs ys f i = let o = out_filter p x xs (by_position_in x (filter p xs) i) in in_by_position x (filter p ys) (in_filter p x ys (f o.0) o.1)
 
-    back : IsLawful channel notes → take b.at (notes ++ more) ≡ take b.at notes → (x : Placed) → IsIn x (kept (take b.at notes) b.floor (sources_in sources (layout_of channel (notes ++ more)).segments)) → IsIn x (product notes (layout_of channel notes) sources b)
+    back : IsLawful channel notes → take b.at (notes ++ more) ≡ take b.at notes → (x : Placed) → IsIn x (kept_in (take b.at notes) b.floor (sources_in sources (layout_of channel (notes ++ more)).segments)) → IsIn x (merged_piece notes (layout_of channel notes) sources b)
     back front cut x i = swap (is_kept (take b.at notes) b.floor) x (rows_in (sources_in sources (layout_of channel (notes ++ more)).segments)) (rows_in (sources_in sources (layout_of channel notes).segments)) (λ j.
         let f = source_of sources (layout_of channel (notes ++ more)).segments x j in
         let g = there_is f.segment.number (layout_of channel notes).segments (among_there (is_there (layout_of channel notes)) f.segment.number sources f.among there) in
         let same : f.segment.piece ≡ g.0.piece = piece_stays channel notes more lawful g.0 f.segment g.1 f.there (sym g.2) in
         of_source sources (layout_of channel notes).segments x (record { segment = g.0; there = g.1; among = ap (λ n. list_any (λ number. nat_eq n number) sources) g.2 ∙ f.among; row = subst (IsIn x) same f.row })) i
 
-    forth : IsLawful channel notes → (x : Placed) → IsIn x (product notes (layout_of channel notes) sources b) → IsIn x (kept (take b.at notes) b.floor (sources_in sources (layout_of channel (notes ++ more)).segments))
+    forth : IsLawful channel notes → (x : Placed) → IsIn x (merged_piece notes (layout_of channel notes) sources b) → IsIn x (kept_in (take b.at notes) b.floor (sources_in sources (layout_of channel (notes ++ more)).segments))
     forth front x i = swap (is_kept (take b.at notes) b.floor) x (rows_in (sources_in sources (layout_of channel notes).segments)) (rows_in (sources_in sources (layout_of channel (notes ++ more)).segments)) (λ j.
         let f = source_of sources (layout_of channel notes).segments x j in
         let g = there_is f.segment.number (layout_of channel (notes ++ more)).segments (among_there (is_there (layout_of channel (notes ++ more))) f.segment.number sources f.among still) in

@@ -10,10 +10,11 @@ use Rattle.journal_model.specs.declared.notes.Kind.TheVariants.{Tick}
 use Rattle.journal_model.specs.declared.notes.Note.{Note}
 use Rattle.journal_model.specs.Notes.{ts_of, entries_of, log_of, tick_after, tick_from, tick_of}
 use Rattle.journal_model.specs.Journals.{UpTo, AreUpTo, is_next, IsJournal}
-use Rattle.log_model.specs.Places.{Placed}
 use Rattle.journal_model.specs.Puts.{death, is_dead_by, IsAlive}
-use Rattle.journal_model.specs.Views.{IsIn, joined, Shown, View, shown, is_visible, IsLiveAt, ShowsLive}
+use Rattle.journal_model.specs.Lists.{IsIn, joined}
+use Rattle.journal_model.specs.Views.{Shown, View, shown, is_visible, IsLiveAt, ShowsLive}
 use Rattle.journal_model.specs.Runs.{AreCorrect, Cover}
+use Rattle.log_model.specs.Places.{Placed}
 use Rattle.journal_model.proofs.WalkLaws.{by_snoc, each-parts}
 use Rattle.journal_model.proofs.NoteLaws.{log_of-append, log_of-snoc, tick_of-snoc}
 use Rattle.journal_model.proofs.OrderLaws.{follow_up_to, next_follows}

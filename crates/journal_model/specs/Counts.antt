@@ -6,10 +6,10 @@ use Rattle.journal_model.specs.declared.notes.Home.TheVariants.{Leader}
 use Rattle.journal_model.specs.declared.notes.Kind.{Kind}
 use Rattle.journal_model.specs.declared.notes.Kind.TheVariants.{Number, Merge}
 use Rattle.journal_model.specs.declared.notes.Note.{Note}
-use Rattle.journal_model.specs.Notes.{live_in}
-use Rattle.log_model.specs.Places.{Placed}
+use Rattle.journal_model.specs.Notes.{note_of, live_in}
 use Rattle.journal_model.specs.Puts.{death}
 use Rattle.journal_model.specs.Layouts.{Channel, Segment, Layout, is_home, rows_in, is_kept, layout_of}
+use Rattle.log_model.specs.Places.{Placed}
 
 -- a row that no later note ends
 abbrev pub is_alive : List Note → Placed → Bool
@@ -45,13 +45,13 @@ abbrev pub counts_of : Channel → List Note → Counts
 counts_of channel notes = counted notes (layout_of channel notes)
 
 -- the counts bound each other
-pub record Bound (channel : Channel) (c : Counts) : Type 0 where
+pub record IsBounded (channel : Channel) (c : Counts) : Type 0 where
   pub node_live : c.node_live ≤ c.node_rows
   pub live_least : c.node_live ≤ c.live
   pub live_most : c.live ≤ c.tail + c.waiting * channel.seal_rows + c.node_live
 
 -- a tail is shorter than `seal_rows`, and no segment is longer
-pub record Sized (channel : Channel) (layout : Layout) : Type 0 where
+pub record IsSized (channel : Channel) (layout : Layout) : Type 0 where
   pub tail : length layout.tail < channel.seal_rows
   pub pieces : AllByRecursion (λ s. length s.piece ≤ channel.seal_rows) layout.segments
 
@@ -94,9 +94,6 @@ abbrev pub meet_groups : Channel → List Note → ℕ → List (List Segment)
 meet_groups channel notes floor = if is_mostly_dead notes floor (rows_in (on_nodes (layout_of channel notes).segments)) then grouped channel.seal_rows (kept_rows notes floor) (on_nodes (layout_of channel notes).segments) else []
 
 -- ---- the merges of a meet
-
-abbrev pub note_of : ℕ → ℕ → Kind → Note
-note_of by line kind = record { by = by; line = line; kind = kind }
 
 -- a merge that was begun at the floor and committed at once
 abbrev pub merge_notes : ℕ → ℕ → ℕ → List ℕ → ℕ → Option ℕ → ℕ → List Note

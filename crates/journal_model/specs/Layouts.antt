@@ -8,6 +8,7 @@ use Rattle.journal_model.specs.declared.notes.Kind.TheVariants.{Put, Seal, Numbe
 use Rattle.journal_model.specs.declared.notes.Note.{Note}
 use Rattle.log_model.specs.Places.{Placed}
 use Rattle.journal_model.specs.Puts.{effective_put, death, is_dead_by}
+use Rattle.journal_model.specs.Lists.{insert_by, rising_by}
 use Rattle.journal_model.specs.Walks.{walked}
 
 -- a channel: its number, and the rows at which its tail is sealed
@@ -21,7 +22,7 @@ pub record Segment : Type 0 where
   pub homes : List Home
 
 -- a merge that was begun, by a Number note that ended the first `at` notes
-pub record Begun : Type 0 where
+pub record BegunMerge : Type 0 where
   pub number : ℕ
   pub by : ℕ
   pub floor : ℕ
@@ -32,11 +33,11 @@ pub record Begun : Type 0 where
 pub record Layout : Type 0 where
   pub tail : List Placed
   pub segments : List Segment
-  pub begun : List Begun
+  pub begun : List BegunMerge
   pub taken : ℕ
 
-abbrev pub nothing : Layout
-nothing = record { tail = []; segments = []; begun = []; taken = 0 }
+abbrev pub empty_layout : Layout
+empty_layout = record { tail = []; segments = []; begun = []; taken = 0 }
 
 -- the numbers of segments are taken in this order
 abbrev pub number_at : Channel → ℕ → ℕ
@@ -44,22 +45,22 @@ number_at channel n = n * 16 + channel.number
 
 -- ---- the tail and its boundaries
 
-abbrev pub waiting : ℕ → List Placed → Segment
-waiting number piece = record { number = number; piece = piece; homes = Leader ∷ [] }
+abbrev pub waiting_segment : ℕ → List Placed → Segment
+waiting_segment number piece = record { number = number; piece = piece; homes = Leader ∷ [] }
 
 -- these rows, the tail, become a waiting segment
-abbrev pub closed : Channel → Layout → List Placed → Layout
-closed channel layout rows = record layout { tail = []; segments = layout.segments ++ waiting (number_at channel layout.taken) rows ∷ []; taken = layout.taken + 1 }
+abbrev pub after_boundary : Channel → Layout → List Placed → Layout
+after_boundary channel layout rows = record layout { tail = []; segments = layout.segments ++ waiting_segment (number_at channel layout.taken) rows ∷ []; taken = layout.taken + 1 }
 
 abbrev pub with_tail : Layout → List Placed → Layout
 with_tail layout rows = record layout { tail = rows }
 
 abbrev pub with_row : Channel → Layout → Option Placed → Layout
 with_row channel layout None = layout
-with_row channel layout (Some x) = if nat_le channel.seal_rows (length (layout.tail ++ x ∷ [])) then closed channel layout (layout.tail ++ x ∷ []) else with_tail layout (layout.tail ++ x ∷ [])
+with_row channel layout (Some x) = if nat_eq (length (layout.tail ++ x ∷ [])) channel.seal_rows then after_boundary channel layout (layout.tail ++ x ∷ []) else with_tail layout (layout.tail ++ x ∷ [])
 
-abbrev pub sealed : Channel → Layout → Layout
-sealed channel layout = if nat_eq (length layout.tail) 0 then layout else closed channel layout layout.tail
+abbrev pub after_seal : Channel → Layout → Layout
+after_seal channel layout = if nat_eq (length layout.tail) 0 then layout else after_boundary channel layout layout.tail
 
 -- ---- homes
 
@@ -68,11 +69,11 @@ is_home Leader Leader = true
 is_home (Node node) (Node other) = nat_eq node other
 is_home home other = false
 
-abbrev pub loaded : ℕ → List Home → List Home
-loaded node homes = filter (λ home. not (is_home Leader home)) homes ++ Node node ∷ []
+abbrev pub homes_after_load : ℕ → List Home → List Home
+homes_after_load node homes = filter (λ home. not (is_home Leader home)) homes ++ Node node ∷ []
 
-abbrev pub released : ℕ → List Home → List Home
-released node homes = filter (λ home. not (is_home (Node node) home)) homes
+abbrev pub homes_after_release : ℕ → List Home → List Home
+homes_after_release node homes = filter (λ home. not (is_home (Node node) home)) homes
 
 abbrev pub with_homes : (List Home → List Home) → Segment → Segment
 with_homes change s = record s { homes = change s.homes }
@@ -101,15 +102,6 @@ sources_in numbers segments = filter (is_among numbers) segments
 abbrev pub others_in : List ℕ → List Segment → List Segment
 others_in numbers segments = filter (λ s. not (is_among numbers s)) segments
 
--- an item into a list that rises by a number of each, at its place
-abbrev pub insert_by : {X : Type 0} → (X → ℕ) → X → List X → List X
-insert_by at x [] = x ∷ []
-insert_by at x (y ∷ ys) = if nat_le (at x) (at y) then x ∷ y ∷ ys else y ∷ insert_by at x ys
-
-abbrev pub rising_by : {X : Type 0} → (X → ℕ) → List X → List X
-rising_by at [] = []
-rising_by at (x ∷ xs) = insert_by at x (rising_by at xs)
-
 abbrev pub put_in : Placed → List Placed → List Placed
 put_in x xs = insert_by (λ y. y.position) x xs
 
@@ -121,53 +113,53 @@ abbrev pub is_kept : List Note → ℕ → Placed → Bool
 is_kept notes floor x = not (is_dead_by floor (death notes x))
 
 -- the rows of some segments that were not dead at or before the floor, by position
-abbrev pub kept : List Note → ℕ → List Segment → List Placed
-kept notes floor segments = by_position (filter (is_kept notes floor) (rows_in segments))
+abbrev pub kept_in : List Note → ℕ → List Segment → List Placed
+kept_in notes floor segments = by_position (filter (is_kept notes floor) (rows_in segments))
 
 -- the rows that a merge keeps of its sources: by its floor, and the notes up to its beginning
-abbrev pub product : List Note → Layout → List ℕ → Begun → List Placed
-product before layout sources b = kept (take b.at before) b.floor (sources_in sources layout.segments)
+abbrev pub merged_piece : List Note → Layout → List ℕ → BegunMerge → List Placed
+merged_piece before layout sources b = kept_in (take b.at before) b.floor (sources_in sources layout.segments)
 
 -- a segment among others in rising order of numbers
 abbrev pub with_segment : Segment → List Segment → List Segment
 with_segment s [] = s ∷ []
 with_segment s (other ∷ others) = if nat_lt s.number other.number then s ∷ other ∷ others else other ∷ with_segment s others
 
-abbrev pub without : ℕ → List Begun → List Begun
-without number begun = filter (λ b. not (nat_eq b.number number)) begun
+abbrev pub without_begun : ℕ → List BegunMerge → List BegunMerge
+without_begun number begun = filter (λ b. not (nat_eq b.number number)) begun
 
 -- the merge that a seat began with a number
-abbrev pub begun_as : Layout → ℕ → ℕ → Option Begun
-begun_as layout by number = find (λ b. nat_eq b.number number && nat_eq b.by by) layout.begun
+abbrev pub begun_merge : Layout → ℕ → ℕ → Option BegunMerge
+begun_merge layout by number = find (λ b. nat_eq b.number number && nat_eq b.by by) layout.begun
 
-abbrev pub with_product : List Note → Layout → List ℕ → ℕ → Option Begun → List Segment → List Segment
-with_product before layout sources node None others = others
-with_product before layout sources node (Some b) others = with_segment (record { number = b.number; piece = product before layout sources b; homes = Node node ∷ [] }) others
+abbrev pub with_merged : List Note → Layout → List ℕ → ℕ → Option BegunMerge → List Segment → List Segment
+with_merged before layout sources node None others = others
+with_merged before layout sources node (Some b) others = with_segment (record { number = b.number; piece = merged_piece before layout sources b; homes = Node node ∷ [] }) others
 
-abbrev pub merged : List Note → ℕ → Layout → List ℕ → Option ℕ → ℕ → Layout
-merged before by layout sources None node = with_segments layout (others_in sources layout.segments)
-merged before by layout sources (Some number) node = record layout { segments = with_product before layout sources node (begun_as layout by number) (others_in sources layout.segments); begun = without number layout.begun }
+abbrev pub after_merge : List Note → ℕ → Layout → List ℕ → Option ℕ → ℕ → Layout
+after_merge before by layout sources None node = with_segments layout (others_in sources layout.segments)
+after_merge before by layout sources (Some number) node = record layout { segments = with_merged before layout sources node (begun_merge layout by number) (others_in sources layout.segments); begun = without_begun number layout.begun }
 
 -- ---- the walk
 
-abbrev pub numbered : List Note → ℕ → Layout → ℕ → ℕ → Layout
-numbered before by layout segment floor = record layout { begun = layout.begun ++ record { number = segment; by = by; floor = floor; at = length before + 1 } ∷ []; taken = layout.taken + 1 }
+abbrev pub after_number : List Note → ℕ → Layout → ℕ → ℕ → Layout
+after_number before by layout segment floor = record layout { begun = layout.begun ++ record { number = segment; by = by; floor = floor; at = length before + 1 } ∷ []; taken = layout.taken + 1 }
 
-abbrev pub laid_by : Channel → List Note → ℕ → Layout → Kind → Layout
-laid_by channel before by layout (Put ts how row) = with_row channel layout (effective_put before ts.0 how row)
-laid_by channel before by layout (Seal ts) = sealed channel layout
-laid_by channel before by layout (Number segment floor) = numbered before by layout segment floor.0
-laid_by channel before by layout (Load segment node) = with_segments layout (rehome segment (loaded node) layout.segments)
-laid_by channel before by layout (Release segment node) = with_segments layout (rehome segment (released node) layout.segments)
-laid_by channel before by layout (Merge sources segment node) = merged before by layout sources segment node
-laid_by channel before by layout _ = layout
+abbrev pub layout_after : Channel → List Note → ℕ → Layout → Kind → Layout
+layout_after channel before by layout (Put ts how row) = with_row channel layout (effective_put before ts.0 how row)
+layout_after channel before by layout (Seal ts) = after_seal channel layout
+layout_after channel before by layout (Number segment floor) = after_number before by layout segment floor.0
+layout_after channel before by layout (Load segment node) = with_segments layout (rehome segment (homes_after_load node) layout.segments)
+layout_after channel before by layout (Release segment node) = with_segments layout (rehome segment (homes_after_release node) layout.segments)
+layout_after channel before by layout (Merge sources segment node) = after_merge before by layout sources segment node
+layout_after channel before by layout _ = layout
 
-abbrev pub laid : Channel → List Note → Layout → Note → Layout
-laid channel before layout note = laid_by channel before note.by layout note.kind
+abbrev pub next_layout : Channel → List Note → Layout → Note → Layout
+next_layout channel before layout note = layout_after channel before note.by layout note.kind
 
 -- where the rows stand after all notes
 unfoldable pub layout_of : Channel → List Note → Layout
-layout_of channel notes = walked (laid channel) nothing notes
+layout_of channel notes = walked (next_layout channel) empty_layout notes
 
 abbrev pub tail_of : Channel → List Note → List Placed
 tail_of channel notes = (layout_of channel notes).tail

@@ -53,47 +53,8 @@ abbrev pub is_dead_by : ℕ → Option ℕ → Bool
 is_dead_by t None = false
 is_dead_by t (Some ts) = nat_le ts t
 
--- ---- the key index: the place of the live row of a key
-
-abbrev pub over : Option Placed → PutKind → Placed → Option Placed
-over None how x = Some x
-over (Some old) Insert x = Some old
-over (Some old) Upsert x = Some x
-
-abbrev pub reindexed : ℤ → List Note → Option Placed → Kind → Option Placed
-reindexed key before now (Put ts how row) = if int_eq key row.key.0 then over now how (placed (length before) ts.0 row) else now
-reindexed key before now (Remove ts removed) = if int_eq key removed.0 then None else now
-reindexed key before now _ = now
-
--- the live row of a key after all notes
-abbrev pub index_of : List Note → ℤ → Option Placed
-index_of notes key = walked (λ before now note. reindexed key before now note.kind) None notes
-
--- ---- live rows by places
-
 -- a row that was added at or before a timestamp and is not dead there
 pub record IsAlive (notes : List Note) (t : ℕ) (x : Placed) : Type 0 where
   pub put : put_at notes x.position ≡ Some x
   pub old : x.ts ≤ t
   pub alive : is_dead_by t (death notes x) ≡ false
-
--- ---- marks by positions
-
-abbrev pub end_at : ℕ → Option Placed → Option (ℕ × ℕ)
-end_at ts None = None
-end_at ts (Some x) = Some (x.position, ts)
-
-abbrev pub put_ends : List Note → ℕ → PutKind → Row → Option (ℕ × ℕ)
-put_ends notes ts Insert row = None
-put_ends notes ts Upsert row = end_at ts (index_of notes row.key.0)
-
--- the position of the row that a note ends, and when
-abbrev pub ends : List Note → Kind → Option (ℕ × ℕ)
-ends notes (Put ts how row) = put_ends notes ts.0 how row
-ends notes (Remove ts key) = end_at ts.0 (index_of notes key.0)
-ends notes _ = None
-
--- the mark of a row at a position after a row was ended
-abbrev pub marked : Option (ℕ × ℕ) → ℕ → Option ℕ → Option ℕ
-marked None position mark = mark
-marked (Some end) position mark = if nat_eq end.0 position then Some end.1 else mark

@@ -1,5 +1,5 @@
 -- What a view shows, and when it is exact.
-use Rattle.std.specs.Prelude.{◌≡◌, ◌↔◌, ◌⊎◌, ℕ, ◌≤◌, nat_le, Bool, true, not, ◌&&◌, List, [], ◌∷◌, ◌++◌, map, Option, Some}
+use Rattle.std.specs.Prelude.{◌≡◌, ◌↔◌, ℕ, ◌≤◌, nat_le, Bool, true, not, ◌&&◌, List, [], ◌∷◌, ◌++◌, map, Option, Some}
 use Rattle.std.specs.Option.{option_or}
 use Rattle.std.specs.List.{filter}
 use Rattle.std.specs.FinMap as fin
@@ -7,18 +7,10 @@ use Rattle.row_types.specs.declared.rows.Row.{Row}
 use Rattle.log_model.specs.Logs.{live}
 use Rattle.journal_model.specs.declared.notes.Note.{Note}
 use Rattle.journal_model.specs.Notes.{log_of, tick_of}
-use Rattle.log_model.specs.Places.{Placed}
 use Rattle.journal_model.specs.Puts.{first_end, death, is_dead_by}
-use Rattle.journal_model.specs.Layouts.{Channel, Segment, rising_by, layout_of}
-
--- an element of a list
-abbrev pub IsIn : {X : Type 0} → X → List X → Type 0
-IsIn x [] = ⊥
-IsIn x (y ∷ ys) = (x ≡ y) ⊎ IsIn x ys
-
-abbrev pub joined : {X : Type 0} → List (List X) → List X
-joined [] = []
-joined (part ∷ parts) = part ++ joined parts
+use Rattle.journal_model.specs.Layouts.{Channel, Segment, layout_of}
+use Rattle.journal_model.specs.Lists.{IsIn, joined, rising_by}
+use Rattle.log_model.specs.Places.{Placed}
 
 -- a row of a part: its position and timestamp, and the timestamp of its death, if it is marked
 pub record Shown : Type 0 where

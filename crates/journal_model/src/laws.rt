@@ -10,25 +10,28 @@ ghost use Rattle.hybrid_time.specs.declared.times.Timestamp.{Timestamp};
 ghost use Rattle.journal_model.specs.declared.notes.PutKind.{PutKind};
 ghost use Rattle.journal_model.specs.declared.notes.Home.{Home};
 ghost use Rattle.journal_model.specs.declared.notes.Kind.TheVariants.{Put, Remove, Tick, Seal, Look, Number, Load, Release, Lists, Merge};
+ghost use Rattle.journal_model.specs.Notes.{ts_of, changed_key, log_of, live_in, tick_of, note_of};
+ghost use Rattle.journal_model.specs.Journals.{is_below, shares_batch, may_follow, AreBelow, AreUpTo, IsJournal, IsLog};
+ghost use Rattle.journal_model.specs.Puts.{put_at, first_end, death, IsAlive};
+ghost use Rattle.journal_model.specs.Tables.{ends, marked};
+ghost use Rattle.journal_model.specs.Layouts.{Channel, Segment, BegunMerge, number_at, begun_merge, kept_in, merged_piece, sources_in, layout_of};
+ghost use Rattle.journal_model.specs.Lawful.{given_of, is_there, IsLawful, IsBegun};
 ghost use Rattle.journal_model.specs.Refusals.{move_refusal, load_refusal, release_refusal, merge_refusal};
+ghost use Rattle.journal_model.specs.Lists.{IsIn, joined};
+ghost use Rattle.journal_model.specs.Views.{Shown, shown, StandsFor, advanced, merged_parts, IsLiveAt, IsExact, ShowsLive, view_of};
+ghost use Rattle.journal_model.specs.Runs.{State, Act, FloorsUpTo, AreCorrect, IsConsistent, all_rows, IsSound, is_step, run};
+ghost use Rattle.journal_model.specs.Invariants.{IsValid, NumbersRise, Numbered, Once};
+ghost use Rattle.journal_model.specs.Counts.{IsSized, IsBounded, counts_of, kept_rows, grouped, meet_groups, numbers_of, AfterMerges};
 ghost use Rattle.log_model.specs.declared.logs.Write.{Write};
 ghost use Rattle.log_model.specs.Logs.{IsAbove, key_of, was_live};
 ghost use Rattle.journal_model.specs.declared.notes.Note.{Note};
-ghost use Rattle.journal_model.specs.Notes.{ts_of, changed_key, log_of, live_in, tick_of};
-ghost use Rattle.journal_model.specs.Journals.{is_below, is_mate, may_follow, AreBelow, AreUpTo, IsJournal, IsLog};
 ghost use Rattle.log_model.specs.Places.{Placed};
-ghost use Rattle.journal_model.specs.Puts.{put_at, first_end, death, ends, marked, IsAlive};
-ghost use Rattle.journal_model.specs.Layouts.{Channel, Segment, Begun, number_at, begun_as, kept, product, sources_in, layout_of};
-ghost use Rattle.journal_model.specs.Lawful.{given_of, is_there, IsLawful};
-ghost use Rattle.journal_model.specs.Counts.{Sized, Bound, counts_of, kept_rows, grouped, meet_groups, numbers_of, AfterMerges, note_of};
-ghost use Rattle.journal_model.specs.Views.{IsIn, joined, Shown, shown, StandsFor, advanced, merged_parts, IsLiveAt, IsExact, ShowsLive, view_of};
-ghost use Rattle.journal_model.specs.Runs.{State, Act, FloorsUpTo, AreCorrect, Stand, Held, NumbersRise, Numbered, Once, Origin, rows_held, IsSound, is_step, run};
 
 /// The order of notes: which may follow, and what the log of a journal is.
 pub fn order()
-    ensures text { (xs ys : List Note) → (first note : Note) → may_follow (xs ++ first ∷ ys) note ≡ true → (s t : ℕ) → ts_of first.kind ≡ Some s → ts_of note.kind ≡ Some t → (s < t) ⊎ ((s ≡ t) × (list_all (is_mate note) (first ∷ ys) ≡ true)) }
-    ensures batch { (before mates : List Note) → (note : Note) → AllByRecursion (λ n. is_below (ts_of n.kind) (ts_of note.kind) ≡ true) before → list_all (is_mate note) mates ≡ true → may_follow (before ++ mates) note ≡ true }
-    ensures from_text { (before : List Note) → (note : Note) → ((xs ys : List Note) → (first : Note) → before ≡ xs ++ first ∷ ys → (s t : ℕ) → ts_of first.kind ≡ Some s → ts_of note.kind ≡ Some t → (s < t) ⊎ ((s ≡ t) × (list_all (is_mate note) (first ∷ ys) ≡ true))) → may_follow before note ≡ true }
+    ensures text { (xs ys : List Note) → (first note : Note) → may_follow (xs ++ first ∷ ys) note ≡ true → (s t : ℕ) → ts_of first.kind ≡ Some s → ts_of note.kind ≡ Some t → (s < t) ⊎ ((s ≡ t) × (list_all (shares_batch note) (first ∷ ys) ≡ true)) }
+    ensures batch { (before mates : List Note) → (note : Note) → AllByRecursion (λ n. is_below (ts_of n.kind) (ts_of note.kind) ≡ true) before → list_all (shares_batch note) mates ≡ true → may_follow (before ++ mates) note ≡ true }
+    ensures from_text { (before : List Note) → (note : Note) → ((xs ys : List Note) → (first : Note) → before ≡ xs ++ first ∷ ys → (s t : ℕ) → ts_of first.kind ≡ Some s → ts_of note.kind ≡ Some t → (s < t) ⊎ ((s ≡ t) × (list_all (shares_batch note) (first ∷ ys) ≡ true))) → may_follow before note ≡ true }
     ensures undated { (before : List Note) → (note : Note) → ts_of note.kind ≡ None → may_follow before note ≡ true }
     ensures log { (notes : List Note) → IsJournal notes → IsLog (log_of notes) }
     ensures above { (notes more : List Note) → IsJournal (notes ++ more) → IsAbove (tick_of notes) (log_of more) }
@@ -49,29 +52,29 @@ pub fn rows()
 /// In every lawful journal, at a floor that no merge began above, tail and pieces are correct, cover and
 /// stand apart; each segment has a place, and the leader only alone; no number and no place stands twice.
 pub fn segments()
-    ensures held { (channel : Channel) → (notes : List Note) → (floor : ℕ) → IsLawful channel notes → FloorsUpTo floor notes → Held notes floor (layout_of channel notes) }
+    ensures held { (channel : Channel) → (notes : List Note) → (floor : ℕ) → IsLawful channel notes → FloorsUpTo floor notes → IsValid notes floor (layout_of channel notes) }
     ensures numbered { (channel : Channel) → (notes : List Note) → IsLawful channel notes → Numbered channel (layout_of channel notes) }
     ensures homes { (channel : Channel) → (notes : List Note) → IsLawful channel notes → AllByRecursion (λ s. Once s.homes) (layout_of channel notes).segments }
-    ensures sizes { (channel : Channel) → 0 < channel.seal_rows → (notes : List Note) → IsLawful channel notes → Sized channel (layout_of channel notes) }
+    ensures sizes { (channel : Channel) → 0 < channel.seal_rows → (notes : List Note) → IsLawful channel notes → IsSized channel (layout_of channel notes) }
 {}
 
 /// A merge that was begun: its number, and what it keeps, stay until it is committed.
 pub fn merges()
-    ensures origin { (channel : Channel) → (notes : List Note) → IsLawful channel notes → AllByRecursion (λ b. Origin notes b) (layout_of channel notes).begun }
-    ensures begun { (channel : Channel) → (notes : List Note) → IsLawful channel notes → (b : Begun) → Origin notes b → begun_as (layout_of channel notes) b.by b.number ≡ Some b }
+    ensures origin { (channel : Channel) → (notes : List Note) → IsLawful channel notes → AllByRecursion (λ b. IsBegun notes b) (layout_of channel notes).begun }
+    ensures begun { (channel : Channel) → (notes : List Note) → IsLawful channel notes → (b : BegunMerge) → IsBegun notes b → begun_merge (layout_of channel notes) b.by b.number ≡ Some b }
     ensures piece { (channel : Channel) → (notes more : List Note) → IsLawful channel (notes ++ more) → (s t : Segment) → IsIn s (layout_of channel notes).segments → IsIn t (layout_of channel (notes ++ more)).segments → t.number ≡ s.number → t.piece ≡ s.piece }
-    ensures same { (channel : Channel) → (floor : ℕ) → (notes more : List Note) → (sources : List ℕ) → (b : Begun) → IsLawful channel (notes ++ more) → FloorsUpTo floor (notes ++ more) → FloorsUpTo floor notes → b.at ≤ length notes → list_all (is_there (layout_of channel notes)) sources ≡ true → list_all (is_there (layout_of channel (notes ++ more))) sources ≡ true → product (notes ++ more) (layout_of channel (notes ++ more)) sources b ≡ product notes (layout_of channel notes) sources b }
+    ensures same { (channel : Channel) → (floor : ℕ) → (notes more : List Note) → (sources : List ℕ) → (b : BegunMerge) → IsLawful channel (notes ++ more) → FloorsUpTo floor (notes ++ more) → FloorsUpTo floor notes → b.at ≤ length notes → list_all (is_there (layout_of channel notes)) sources ≡ true → list_all (is_there (layout_of channel (notes ++ more))) sources ≡ true → merged_piece (notes ++ more) (layout_of channel (notes ++ more)) sources b ≡ merged_piece notes (layout_of channel notes) sources b }
 {}
 
 /// The counts bound each other; a group's sizes sum to at most `most`; and after a meet at least half of
 /// the rows on nodes are alive.
 pub fn counting()
-    ensures bound { (channel : Channel) → (notes : List Note) → (floor : ℕ) → 0 < channel.seal_rows → IsLawful channel notes → Stand notes floor (rows_held (layout_of channel notes)) → Bound channel (counts_of channel notes) }
+    ensures bound { (channel : Channel) → (notes : List Note) → (floor : ℕ) → 0 < channel.seal_rows → IsLawful channel notes → IsConsistent notes floor (all_rows (layout_of channel notes)) → IsBounded channel (counts_of channel notes) }
     ensures groups { (most : ℕ) → (size : Segment → ℕ) → (segments : List Segment) → joined (grouped most size segments) ≡ segments }
     ensures few { (channel : Channel) → (notes : List Note) → (floor : ℕ) → (segments : List Segment) → AllByRecursion (λ s. length s.piece ≤ channel.seal_rows) segments → AllByRecursion (λ group. (sum_by (kept_rows notes floor) group ≤ channel.seal_rows) × (0 < length group)) (grouped channel.seal_rows (kept_rows notes floor) segments) }
-    ensures sources { (notes : List Note) → (floor : ℕ) → (segments : List Segment) → (p : Segment → Bool) → (most : ℕ) → (group : List Segment) → NumbersRise segments → IsIn group (grouped most (kept_rows notes floor) (filter p segments)) → length (kept notes floor (sources_in (map (λ s. s.number) group) segments)) ≡ sum_by (kept_rows notes floor) group }
+    ensures sources { (notes : List Note) → (floor : ℕ) → (segments : List Segment) → (p : Segment → Bool) → (most : ℕ) → (group : List Segment) → NumbersRise segments → IsIn group (grouped most (kept_rows notes floor) (filter p segments)) → length (kept_in notes floor (sources_in (map (λ s. s.number) group) segments)) ≡ sum_by (kept_rows notes floor) group }
     ensures up_to { (notes : List Note) → (note : Note) → (ts : ℕ) → IsJournal (notes ++ note ∷ []) → ts_of note.kind ≡ Some ts → AreUpTo ts (notes ++ note ∷ []) }
-    ensures kept { (notes : List Note) → (floor : ℕ) → (segments : List Segment) → length (kept notes floor segments) ≡ sum_by (kept_rows notes floor) segments }
+    ensures kept { (notes : List Note) → (floor : ℕ) → (segments : List Segment) → length (kept_in notes floor segments) ≡ sum_by (kept_rows notes floor) segments }
     ensures meet { (channel : Channel) → (floor : ℕ) → (notes end : List Note) → AreUpTo floor notes → AfterMerges floor notes (numbers_of (meet_groups channel notes floor)) end → IsLawful channel end → (counts_of channel end).node_rows ≤ 2 * (counts_of channel end).node_live }
 {}
 
@@ -86,13 +89,13 @@ pub fn calls()
     ensures load { (channel : Channel) → (s : State) → (by line : ℕ) → (segment : ℕ) → (from : Home) → (node : ℕ) → load_refusal (layout_of channel s.notes) segment from node ≡ None → is_step channel s (note_of by line (Load segment node)) ≡ true }
     ensures release { (channel : Channel) → (s : State) → (by line : ℕ) → (segment node : ℕ) → release_refusal (layout_of channel s.notes) segment node ≡ None → is_step channel s (note_of by line (Release segment node)) ≡ true }
     ensures lists { (channel : Channel) → (s : State) → (by line : ℕ) → (segment : ℕ) → (from : Home) → move_refusal (layout_of channel s.notes) segment from ≡ None → is_step channel s (note_of by line (Lists segment)) ≡ true }
-    ensures merge { (channel : Channel) → (s : State) → (by line : ℕ) → IsLawful channel s.notes → (b : Begun) → Origin s.notes b → b.by ≡ by → (sources : List ℕ) → (node : ℕ) → merge_refusal (layout_of channel s.notes) sources ≡ None → length (product s.notes (layout_of channel s.notes) sources b) ≤ channel.seal_rows → is_step channel s (note_of by line (Merge sources (given_of b.number (length (product s.notes (layout_of channel s.notes) sources b))) node)) ≡ true }
+    ensures merge { (channel : Channel) → (s : State) → (by line : ℕ) → IsLawful channel s.notes → (b : BegunMerge) → IsBegun s.notes b → b.by ≡ by → (sources : List ℕ) → (node : ℕ) → merge_refusal (layout_of channel s.notes) sources ≡ None → length (merged_piece s.notes (layout_of channel s.notes) sources b) ≤ channel.seal_rows → is_step channel s (note_of by line (Merge sources (given_of b.number (length (merged_piece s.notes (layout_of channel s.notes) sources b))) node)) ≡ true }
 {}
 
 /// Parts stand for pieces as the journal goes on, and through a merge.
 pub fn parts()
     ensures later { (notes more : List Note) → (part : List Shown) → (piece : List Placed) → AreCorrect notes piece → StandsFor notes part piece → StandsFor (notes ++ more) (map (advanced more) part) piece }
-    ensures merged { (notes : List Note) → (floor : ℕ) → (segments : List Segment) → StandsFor notes (merged_parts floor (map (λ s. map (shown notes) s.piece) segments)) (kept notes floor segments) }
+    ensures merged { (notes : List Note) → (floor : ℕ) → (segments : List Segment) → StandsFor notes (merged_parts floor (map (λ s. map (shown notes) s.piece) segments)) (kept_in notes floor segments) }
 {}
 
 /// Every state of every run is sound, and each view that a look gives shows the live rows at each
