@@ -12,6 +12,7 @@ use Rattle.std.proofs.lemmas.Bool.Decides.{Decides-int_eq}
 use Rattle.std.proofs.lemmas.List.{length-map}
 use Rattle.std.proofs.lemmas.List.Sums.{length-filter, count_by-le-length, sum_by_push, sum_by-cons}
 use Rattle.journal_model.specs.declared.notes.Note.{Note}
+use Rattle.journal_model.specs.Groups.{is_mostly_dead, and_groups, grouped_from}
 use Rattle.journal_model.specs.Notes.{live_in}
 use Rattle.journal_model.specs.Journals.{UpTo, AreUpTo}
 use Rattle.journal_model.specs.Puts.{death, is_dead_by, dead_at}
@@ -20,7 +21,7 @@ use Rattle.journal_model.specs.Layouts.{Channel, Segment, BegunMerge, Layout, ro
 use Rattle.journal_model.specs.Lawful.{IsLawful}
 use Rattle.journal_model.specs.Lists.{IsIn, joined}
 use Rattle.journal_model.specs.Runs.{IsConsistent, all_rows}
-use Rattle.journal_model.specs.Counts.{is_alive, is_waiting, IsBounded, waiting_in, on_nodes, counts_of, is_mostly_dead, and_groups, grouped_from}
+use Rattle.journal_model.specs.Counts.{is_alive, is_waiting, IsBounded, waiting_in, on_nodes, counts_of}
 use Rattle.log_model.specs.Places.{Placed}
 use Rattle.journal_model.specs.declared.notes.Home.TheVariants.{Node}
 use Rattle.journal_model.proofs.IndexLaws.{index_stands, get-index}
@@ -204,7 +205,7 @@ kept_alive notes floor x low = go (death notes x) (dead_up_to floor notes x.posi
     go None u = refl
     go (Some d) u = ap not (le-leb d floor u)
 
-count_alike : (p q : Placed → Bool) (xs : List Placed) → ((x : Placed) → p x ≡ q x) → count_by p xs ≡ count_by q xs
+pub count_alike : (p q : Placed → Bool) (xs : List Placed) → ((x : Placed) → p x ≡ q x) → count_by p xs ≡ count_by q xs
 count_alike p q [] f = refl
 count_alike p q (x ∷ xs) f = count-cons p x xs ∙ ap₂ (λ b n. cond b 1 0 + n) (f x) (count_alike p q xs f) ∙ sym (count-cons q x xs)
 

@@ -3,26 +3,28 @@ use Rattle.std.proofs.Common.{◌≡◌, ◌≢◌, ℕ, ℤ, ◌+◌, ◌*◌, 
 use Rattle.std.specs.Prelude.{is_some, nat_eq, IfSome}
 use Rattle.std.specs.Option.{option_or}
 use Rattle.std.specs.List.{find, list_any, AllByRecursion, count_by, sum_by}
-use Rattle.std.proofs.lemmas.Bool.{cases_lt, and_from, or_left, or_right, not_from_false}
-use Rattle.std.proofs.lemmas.List.{take_all, length_push, map-append}
+use Rattle.std.proofs.lemmas.Bool.{cases_lt, and_parts, or_left, or_right, not_from_false}
+use Rattle.std.proofs.lemmas.List.{take_all, take-append-le, length_push, length-append, map-append}
 use Rattle.log_model.proofs.LogLaws.{each-append, each_implied}
 use Rattle.journal_model.specs.declared.notes.Kind.TheVariants.{Number, Merge}
 use Rattle.journal_model.specs.declared.notes.Note.{Note}
+use Rattle.journal_model.specs.Groups.{kept_rows, grouped, is_mostly_dead, meet_groups, numbers_of, MergesOf, Done, Begins, Commits}
 use Rattle.journal_model.specs.Notes.{ts_of, note_of}
 use Rattle.journal_model.specs.Journals.{is_next, IsJournal, UpTo, AreUpTo}
 use Rattle.journal_model.specs.Puts.{ended, dead_at, death}
-use Rattle.journal_model.specs.Layouts.{Channel, Segment, BegunMerge, number_at, rows_in, is_among, is_kept, begun_merge, after_merge, after_number, next_layout, layout_of}
-use Rattle.journal_model.specs.Lawful.{is_lawful, IsLawful}
+use Rattle.journal_model.specs.Layouts.{Channel, Segment, BegunMerge, number_at, rows_in, is_among, is_kept, begun_merge, after_merge, layout_of}
+use Rattle.journal_model.specs.Lawful.{is_lawful, IsLawful, IsBegun}
 use Rattle.journal_model.specs.Lists.{IsIn, joined}
 use Rattle.journal_model.specs.Invariants.{IsFresh}
-use Rattle.journal_model.specs.Counts.{is_alive, is_waiting, on_nodes, counts_of, kept_rows, grouped, is_mostly_dead, meet_groups, numbers_of, merge_notes, AfterMerges}
+use Rattle.journal_model.specs.Counts.{is_alive, is_waiting, on_nodes, counts_of}
 use Rattle.log_model.specs.Places.{Placed}
-use Rattle.journal_model.proofs.WalkLaws.{each-parts, each-front}
+use Rattle.journal_model.proofs.WalkLaws.{each-parts, each-front, each-snoc, each-at}
 use Rattle.journal_model.proofs.PutLaws.{dead_at-append, dead_at-new, dead_at_past, first_end-one}
-use Rattle.journal_model.proofs.ListLaws.{in_filter, in_map}
+use Rattle.journal_model.proofs.ListLaws.{in_filter, out_filter, in_map, in_cases, all_in}
 use Rattle.journal_model.proofs.LayoutLaws.{layout-snoc}
 use Rattle.journal_model.proofs.NumberLaws.{numbers, taken_low}
-use Rattle.journal_model.proofs.CountLaws.{kept_alive, meet_spares, AreClean, merge_cleans, clean_counts, joined-grouped, each_grouped}
+use Rattle.journal_model.proofs.BegunLaws.{begun_origin}
+use Rattle.journal_model.proofs.CountLaws.{kept_alive, count_alike, meet_spares, AreClean, merge_cleans, clean_counts, joined-grouped, each_grouped}
 use Rattle.journal_model.proofs.OrderLaws.{follow_up_to, next_follows}
 use Rattle.std.proofs.lemmas.List.Sums.{count_by-le-length}
 
@@ -47,62 +49,113 @@ clean_longer : (notes : List Note) (note : Note) (left : List ℕ) (segments : L
 unfolding AreClean
 clean_longer notes note left segments none clean s i on = ⊎_elim (λ l. inl l) (λ r. inr (λ x j. ap (λ o. not (is_some o)) (quiet notes note x (none x.row.key.0)) ∙ r x j)) (clean s i on)
 
-find_last : (n by : ℕ) (begun : List BegunMerge) (b : BegunMerge) → AllByRecursion (λ c. c.number ≢ n) begun → find (λ c. nat_eq c.number n && nat_eq c.by by) (begun ++ b ∷ []) ≡ cond (nat_eq b.number n && nat_eq b.by by) (Some b) None
-find_last n by [] b a = refl
-find_last n by (c ∷ begun) b a = ap (λ t. cond (t && nat_eq c.by by) (Some c) (find (λ d. nat_eq d.number n && nat_eq d.by by) (begun ++ b ∷ []))) (ne_eqb c.number n a.0) ∙ find_last n by begun b a.1
+-- ---- a meet on its way
 
--- one group of a meet
-module _ (channel : Channel) (floor : ℕ) (notes : List Note) (by line : ℕ) (group : List ℕ) (number : ℕ) (given : Option ℕ) (node : ℕ) where
-  first : Note
-  first = note_of by line (Number number (record { 0 = floor }))
+-- the notes so far are lawful and up to the floor; of the groups that are left the segments still wait for their merge;
+-- and what a merge that began with one of the numbers keeps is alive
+pub record Meeting (channel : Channel) (floor : ℕ) (taken left : List ℕ) (notes : List Note) : Type 0 where
+  pub lawful : IsLawful channel notes
+  pub low : AreUpTo floor notes
+  pub clean : AreClean notes left (layout_of channel notes).segments
+  pub cuts : (b : BegunMerge) → IsIn b (layout_of channel notes).begun → IsIn b.number taken → (x : Placed) → is_kept (take b.at notes) b.floor x ≡ true → is_alive notes x ≡ true
 
-  pair_cleans : (left : List ℕ) → IfSome given (λ segment. segment ≡ number) → IsLawful channel (notes ++ merge_notes floor by line group number given node) → AreUpTo floor notes
-      → AreClean notes (group ++ left) (layout_of channel notes).segments
-      → AreClean (notes ++ merge_notes floor by line group number given node) left (layout_of channel (notes ++ merge_notes floor by line group number given node)).segments
-  pair_cleans left is lawful low clean =
-      let one : Note = note_of by line (Number number (record { 0 = floor })) in
-      let two : Note = note_of by line (Merge group given node) in
-      let same : (notes ++ note_of by line (Number number (record { 0 = floor })) ∷ []) ++ note_of by line (Merge group given node) ∷ [] ≡ notes ++ merge_notes floor by line group number given node = append_assoc notes (one ∷ []) (two ∷ []) in
-      let both = each-parts (λ before n. is_lawful channel before n ≡ true) (notes ++ one ∷ []) two (subst (IsLawful channel) (sym same) lawful) in
-      let parts = each-parts (λ before n. is_lawful channel before n ≡ true) notes one both.0 in
-      let b : BegunMerge = record { number = number; by = by; floor = floor; at = length notes + 1 } in
-      let next : number ≡ number_at channel (layout_of channel notes).taken = eqb-true number (number_at channel (layout_of channel notes).taken) parts.1 in
-      let laid_one : layout_of channel (notes ++ one ∷ []) ≡ after_number notes by (layout_of channel notes) number floor = layout-snoc channel notes one in
-      let others : AllByRecursion (λ c. c.number ≢ number) (layout_of channel notes).begun =
-      each_implied (λ c. IsFresh channel (layout_of channel notes) c.number) (λ c. c.number ≢ number) (λ c f e. let lt : c.number < number_at channel (layout_of channel notes).taken = taken_low channel (layout_of channel notes).taken c.number f.0 in absurd (omega arith)) (layout_of channel notes).begun (numbers channel notes parts.0).fresh in
-      let own : begun_merge (after_number notes by (layout_of channel notes) number floor) by number ≡ Some b =
-      find_last number by (layout_of channel notes).begun b others ∙ ap (λ t. cond t (Some b) None) (and_from (nat_eq number number) (nat_eq by by) (eq-eqb number number refl) (eq-eqb by by refl)) in
-      let up : AreUpTo floor (notes ++ one ∷ []) = each-append (λ n. UpTo floor (ts_of n.kind)) notes (one ∷ []) low (tt, tt) in
-      let fit : (n : ℕ) (c : BegunMerge) → given ≡ Some n → begun_merge (after_number notes by (layout_of channel notes) number floor) by n ≡ Some c → (x : Placed) → is_kept (take c.at (notes ++ one ∷ [])) c.floor x ≡ true → is_alive (notes ++ one ∷ []) x ≡ true =
-      (λ n c g f x k.
-      let at_number : n ≡ number = subst (λ o. IfSome o (λ segment. segment ≡ number)) g is in
-      let it : Some c ≡ Some b = sym f ∙ ap (begun_merge (after_number notes by (layout_of channel notes) number floor) by) at_number ∙ own in
-      let is_b : c ≡ b = cc in
-      let whole : take (length notes + 1) (notes ++ one ∷ []) ≡ notes ++ one ∷ [] = take_all (length notes + 1) (notes ++ one ∷ []) (omega (arith, length_push notes one)) in
-      sym (kept_alive (notes ++ one ∷ []) floor x up) ∙ ap (λ l. is_kept l floor x) (sym whole) ∙ subst (λ d. is_kept (take d.at (notes ++ one ∷ [])) d.floor x ≡ true) is_b k) in
-      let after : AreClean (notes ++ one ∷ []) left (after_merge (notes ++ one ∷ []) by (after_number notes by (layout_of channel notes) number floor) group given node).segments =
-      merge_cleans (notes ++ one ∷ []) by (after_number notes by (layout_of channel notes) number floor) group left given node fit (clean_longer notes one (group ++ left) (layout_of channel notes).segments (λ key. refl) clean) in
-      subst (λ l. AreClean l left (layout_of channel l).segments) same
-      (subst (λ l. AreClean ((notes ++ one ∷ []) ++ two ∷ []) left l.segments) (sym (layout-snoc channel (notes ++ one ∷ []) two ∙ ap (λ l. next_layout channel (notes ++ one ∷ []) l two) laid_one))
-      (clean_longer (notes ++ one ∷ []) two left (after_merge (notes ++ one ∷ []) by (after_number notes by (layout_of channel notes) number floor) group given node).segments (λ key. refl) after))
+begun_within : (channel : Channel) (notes : List Note) → IsLawful channel notes → (b : BegunMerge) → IsIn b (layout_of channel notes).begun → b.at ≤ length notes
+begun_within channel notes lawful b i =
+    let o : IsBegun notes b = all_in (λ c. IsBegun notes c) (layout_of channel notes).begun b (begun_origin channel notes lawful) i in
+    let at = o.at in
+    let whole : length notes ≡ length (o.before ++ o.note ∷ o.rest) = ap length o.is in
+    let parts : length (o.before ++ o.note ∷ o.rest) ≡ length o.before + length (o.note ∷ o.rest) = length-append o.before (o.note ∷ o.rest) in
+    omega arith
 
-pub after_more : (floor : ℕ) (groups : List (List ℕ)) (notes end : List Note) → AfterMerges floor notes groups end → (more : List Note) × (end ≡ notes ++ more)
-after_more floor [] notes end a = ([], a ∙ sym (append-nil notes))
-after_more floor (group ∷ groups) notes end a =
-    let pair : List Note = merge_notes floor a.0 a.1 group a.2 a.3 a.4 in
-    let rest = after_more floor groups (notes ++ pair) end a.6 in
-    (pair ++ rest.0, rest.1 ∙ append_assoc notes pair rest.0)
+module _ (channel : Channel) (floor : ℕ) (taken left : List ℕ) (notes : List Note) where
+  old_cut : (note : Note) → ((key : ℤ) → ended key note.kind ≡ None) → Meeting channel floor taken left notes → (b : BegunMerge) → IsIn b (layout_of channel notes).begun → IsIn b.number taken
+      → (x : Placed) → is_kept (take b.at (notes ++ note ∷ [])) b.floor x ≡ true → is_alive (notes ++ note ∷ []) x ≡ true
+  old_cut note none m b i j x h =
+      ap (λ o. not (is_some o)) (quiet notes note x (none x.row.key.0))
+      ∙ m.cuts b i j x (subst (λ l. is_kept l b.floor x ≡ true) (take-append-le b.at notes (note ∷ []) (begun_within channel notes m.lawful b i)) h)
 
-pub merges_clean : (channel : Channel) (floor : ℕ) (groups : List (List ℕ)) (notes end : List Note) → AfterMerges floor notes groups end → IsLawful channel end → AreUpTo floor notes
-    → AreClean notes (joined groups) (layout_of channel notes).segments → AreClean end [] (layout_of channel end).segments
-merges_clean channel floor [] notes end a lawful low clean = subst (λ l. AreClean l [] (layout_of channel l).segments) (sym a) clean
-merges_clean channel floor (group ∷ groups) notes end a lawful low clean =
-    let pair : List Note = merge_notes floor a.0 a.1 group a.2 a.3 a.4 in
-    let rest = after_more floor groups (notes ++ pair) end a.6 in
-    let front : IsLawful channel (notes ++ pair) = each-front (λ before n. is_lawful channel before n ≡ true) (notes ++ pair) rest.0 (subst (IsLawful channel) rest.1 lawful) in
-    merges_clean channel floor groups (notes ++ pair) end a.6 lawful
-    (each-append (λ n. UpTo floor (ts_of n.kind)) notes pair low (tt, (tt, tt)))
-    (pair_cleans channel floor notes a.0 a.1 group a.2 a.3 a.4 (joined groups) a.5 front low clean)
+  begins : (by line number : ℕ) → is_lawful channel notes (note_of by line (Number number (record { 0 = floor }))) ≡ true → Meeting channel floor taken left notes
+      → Meeting channel floor (number ∷ taken) left (notes ++ note_of by line (Number number (record { 0 = floor })) ∷ [])
+  begins by line number ok m = record {
+    lawful = each-snoc (λ before n. is_lawful channel before n ≡ true) notes one m.lawful ok;
+    low = up;
+    clean = subst (λ l. AreClean (notes ++ one ∷ []) left l.segments) (sym (layout-snoc channel notes one)) (clean_longer notes one left (layout_of channel notes).segments (λ key. refl) m.clean);
+    cuts = λ b i j. ⊎_elim
+        (λ k. old_cut one (λ key. refl) m b k (not_new b k j))
+        (λ k. is_new b k)
+        (in_cases b (layout_of channel notes).begun (new ∷ []) (subst (λ l. IsIn b l.begun) (layout-snoc channel notes one) i));
+  }
+    where
+      one : Note
+      one = note_of by line (Number number (record { 0 = floor }))
+
+      new : BegunMerge
+      new = record { number = number; by = by; floor = floor; at = length notes + 1 }
+
+      up : AreUpTo floor (notes ++ note_of by line (Number number (record { 0 = floor })) ∷ [])
+      up = each-append (λ n. UpTo floor (ts_of n.kind)) notes (note_of by line (Number number (record { 0 = floor })) ∷ []) m.low (tt, tt)
+
+      not_new : (b : BegunMerge) → IsIn b (layout_of channel notes).begun → IsIn b.number (number ∷ taken) → IsIn b.number taken
+      not_new b k (inr j) = j
+      not_new b k (inl e) =
+          let f : IsFresh channel (layout_of channel notes) b.number = all_in (λ c. IsFresh channel (layout_of channel notes) c.number) (layout_of channel notes).begun b (numbers channel notes m.lawful).fresh k in
+          let lt : b.number < number_at channel (layout_of channel notes).taken = taken_low channel (layout_of channel notes).taken b.number f.0 in
+          let next : number ≡ number_at channel (layout_of channel notes).taken = eqb-true number (number_at channel (layout_of channel notes).taken) ok in
+          absurd (omega arith)
+
+      is_new : (b : BegunMerge) → IsIn b (record { number = number; by = by; floor = floor; at = length notes + 1 } ∷ []) → (x : Placed)
+          → is_kept (take b.at (notes ++ note_of by line (Number number (record { 0 = floor })) ∷ [])) b.floor x ≡ true → is_alive (notes ++ note_of by line (Number number (record { 0 = floor })) ∷ []) x ≡ true
+      is_new b (inr k) x h = absurd k
+      is_new b (inl e) x h =
+          let two : Note = note_of by line (Number number (record { 0 = floor })) in
+          let whole : take (length notes + 1) (notes ++ two ∷ []) ≡ notes ++ two ∷ [] = take_all (length notes + 1) (notes ++ two ∷ []) (omega (arith, length_push notes two)) in
+          sym (kept_alive (notes ++ two ∷ []) floor x up) ∙ ap (λ l. is_kept l floor x) (sym whole) ∙ subst (λ d. is_kept (take d.at (notes ++ two ∷ [])) d.floor x ≡ true) e h
+
+found_in : (n by : ℕ) (begun : List BegunMerge) (b : BegunMerge) → find (λ c. nat_eq c.number n && nat_eq c.by by) begun ≡ Some b → IsIn b begun × (b.number ≡ n)
+found_in n by [] b e = cc
+found_in n by (c ∷ begun) b e = elim (nat_eq c.number n && nat_eq c.by by) as (λ t. (nat_eq c.number n && nat_eq c.by by) ≡ t → cond t (Some c) (find (λ d. nat_eq d.number n && nat_eq d.by by) begun) ≡ Some b → IsIn b (c ∷ begun) × (b.number ≡ n)) [
+  | true ↦ λ t g. let same : b ≡ c = cc in (inl same, ap (λ d. d.number) same ∙ eqb-true c.number n (and_parts (nat_eq c.number n) (nat_eq c.by by) t).0)
+  | false ↦ λ t g. let rest = found_in n by begun b g in (inr rest.0, rest.1)
+] refl e
+
+module _ (channel : Channel) (floor : ℕ) (taken left group : List ℕ) (notes : List Note) where
+  commits : (by line : ℕ) (segment : Option ℕ) (node : ℕ) → IfSome segment (λ number. IsIn number taken) → is_lawful channel notes (note_of by line (Merge group segment node)) ≡ true
+      → Meeting channel floor taken (group ++ left) notes → Meeting channel floor taken left (notes ++ note_of by line (Merge group segment node) ∷ [])
+  commits by line segment node own ok m = record {
+    lawful = each-snoc (λ before n. is_lawful channel before n ≡ true) notes (note_of by line (Merge group segment node)) m.lawful ok;
+    low = each-append (λ n. UpTo floor (ts_of n.kind)) notes (note_of by line (Merge group segment node) ∷ []) m.low (tt, tt);
+    clean = subst (λ l. AreClean (notes ++ note_of by line (Merge group segment node) ∷ []) left l.segments) (sym (layout-snoc channel notes (note_of by line (Merge group segment node))))
+        (clean_longer notes (note_of by line (Merge group segment node)) left (after_merge notes by (layout_of channel notes) group segment node).segments (λ key. refl)
+        (merge_cleans notes by (layout_of channel notes) group left segment node fit m.clean));
+    cuts = λ b i j. old_cut channel floor taken (group ++ left) notes (note_of by line (Merge group segment node)) (λ key. refl) m b
+        (still segment b (subst (λ l. IsIn b l.begun) (layout-snoc channel notes (note_of by line (Merge group segment node))) i)) j;
+  }
+    where
+      fit : (n : ℕ) (b : BegunMerge) → segment ≡ Some n → begun_merge (layout_of channel notes) by n ≡ Some b → (x : Placed) → is_kept (take b.at notes) b.floor x ≡ true → is_alive notes x ≡ true
+      fit n b e f =
+          let f = found_in n by (layout_of channel notes).begun b f in
+          let at : IsIn n taken = subst (λ o. IfSome o (λ number. IsIn number taken)) e own in
+          m.cuts b f.0 (subst (λ k. IsIn k taken) (sym f.1) at)
+
+      still : (o : Option ℕ) (b : BegunMerge) → IsIn b (after_merge notes by (layout_of channel notes) group o node).begun → IsIn b (layout_of channel notes).begun
+      still None b i = i
+      still (Some n) b i = (out_filter (λ c. not (nat_eq c.number n)) b (layout_of channel notes).begun i).0
+
+pub merges_clean : (channel : Channel) (floor : ℕ) (taken : List ℕ) (groups : List (List ℕ)) (more : List Note) → MergesOf floor taken groups more
+    → (notes : List Note) → Meeting channel floor taken (joined groups) notes → IsLawful channel (notes ++ more) → AreClean (notes ++ more) [] (layout_of channel (notes ++ more)).segments
+merges_clean channel floor taken groups more (Done _) notes m lawful = subst (λ l. AreClean l [] (layout_of channel l).segments) (sym (append-nil notes)) m.clean
+merges_clean channel floor taken groups more (Begins by line number _ _ rest h) notes m lawful =
+    let one : Note = note_of by line (Number number (record { 0 = floor })) in
+    let split : (notes ++ one ∷ []) ++ rest ≡ notes ++ one ∷ rest = append_assoc notes (one ∷ []) rest in
+    let ok = each-at (λ before n. is_lawful channel before n ≡ true) notes one rest lawful in
+    subst (λ l. AreClean l [] (layout_of channel l).segments) split
+    (merges_clean channel floor (number ∷ taken) groups rest h (notes ++ one ∷ []) (begins channel floor taken (joined groups) notes by line number ok m) (subst (IsLawful channel) (sym split) lawful))
+merges_clean channel floor taken groups more (Commits by line group segment node _ others rest own h) notes m lawful =
+    let one : Note = note_of by line (Merge group segment node) in
+    let split : (notes ++ one ∷ []) ++ rest ≡ notes ++ one ∷ rest = append_assoc notes (one ∷ []) rest in
+    let ok = each-at (λ before n. is_lawful channel before n ≡ true) notes one rest lawful in
+    subst (λ l. AreClean l [] (layout_of channel l).segments) split
+    (merges_clean channel floor taken others rest h (notes ++ one ∷ []) (commits channel floor taken (joined others) group notes by line segment node own ok m) (subst (IsLawful channel) (sym split) lawful))
 
 -- ---- the groups of a meet are all segments on nodes
 
@@ -120,22 +173,46 @@ unfolding AreClean
 all_left notes segments left is s i on = inl (subst (λ l. is_among l s ≡ true) (sym is)
     (number_among s.number (map (λ z. z.number) (on_nodes segments)) (in_map (λ (z : Segment). z.number) s (on_nodes segments) (in_filter (λ z. not (is_waiting z)) s segments i (not_from_false (is_waiting s) on)))))
 
+-- where a meet has no group, the rows on nodes and their deaths stay
+unmerged : (channel : Channel) (floor : ℕ) (taken : List ℕ) (groups : List (List ℕ)) (more : List Note) → MergesOf floor taken groups more → groups ≡ []
+    → (notes : List Note) → length (rows_in (on_nodes (layout_of channel notes).segments)) ≤ 2 * count_by (is_alive notes) (rows_in (on_nodes (layout_of channel notes).segments))
+    → length (rows_in (on_nodes (layout_of channel (notes ++ more)).segments)) ≤ 2 * count_by (is_alive (notes ++ more)) (rows_in (on_nodes (layout_of channel (notes ++ more)).segments))
+unmerged channel floor taken groups more (Done _) none notes few =
+    subst (λ l. length (rows_in (on_nodes (layout_of channel l).segments)) ≤ 2 * count_by (is_alive l) (rows_in (on_nodes (layout_of channel l).segments))) (sym (append-nil notes)) few
+unmerged channel floor taken groups more (Commits by line group segment node _ others rest own h) none notes few = cc
+unmerged channel floor taken groups more (Begins by line number _ _ rest h) none notes few =
+    let one : Note = note_of by line (Number number (record { 0 = floor })) in
+    subst (λ l. length (rows_in (on_nodes (layout_of channel l).segments)) ≤ 2 * count_by (is_alive l) (rows_in (on_nodes (layout_of channel l).segments))) (append_assoc notes (one ∷ []) rest)
+    (unmerged channel floor (number ∷ taken) groups rest h none (notes ++ one ∷ [])
+    (subst (λ ss. length (rows_in (on_nodes ss)) ≤ 2 * count_by (is_alive (notes ++ one ∷ [])) (rows_in (on_nodes ss))) (ap (λ l. l.segments) (sym (layout-snoc channel notes one)))
+    (subst (λ n. length (rows_in (on_nodes (layout_of channel notes).segments)) ≤ 2 * n)
+    (count_alike (is_alive notes) (is_alive (notes ++ one ∷ [])) (rows_in (on_nodes (layout_of channel notes).segments)) (λ x. ap (λ o. not (is_some o)) (sym (quiet notes one x refl)))) few)))
+
 -- after a meet at least half of the rows on nodes are alive
-pub meet_bound : (channel : Channel) (floor : ℕ) (notes end : List Note) → AreUpTo floor notes → AfterMerges floor notes (numbers_of (meet_groups channel notes floor)) end → IsLawful channel end
-    → (counts_of channel end).node_rows ≤ 2 * (counts_of channel end).node_live
-meet_bound channel floor notes end low after lawful =
+pub meet_bound : (channel : Channel) (floor : ℕ) (notes more : List Note) → AreUpTo floor notes → MergesOf floor [] (numbers_of (meet_groups channel notes floor)) more → IsLawful channel (notes ++ more)
+    → (counts_of channel (notes ++ more)).node_rows ≤ 2 * (counts_of channel (notes ++ more)).node_live
+meet_bound channel floor notes more low merges lawful =
     elim (is_mostly_dead notes floor (rows_in (on_nodes (layout_of channel notes).segments))) as
     (λ b. is_mostly_dead notes floor (rows_in (on_nodes (layout_of channel notes).segments)) ≡ b
-    → AfterMerges floor notes (numbers_of (cond b (grouped channel.seal_rows (kept_rows notes floor) (on_nodes (layout_of channel notes).segments)) [])) end
-    → (counts_of channel end).node_rows ≤ 2 * (counts_of channel end).node_live) [
-      | true ↦ λ e a.
+    → MergesOf floor [] (numbers_of (cond b (grouped channel.seal_rows (kept_rows notes floor) (on_nodes (layout_of channel notes).segments)) [])) more
+    → (counts_of channel (notes ++ more)).node_rows ≤ 2 * (counts_of channel (notes ++ more)).node_live) [
+      | true ↦ λ e m.
           let groups : List (List Segment) = grouped channel.seal_rows (kept_rows notes floor) (on_nodes (layout_of channel notes).segments) in
-          let clean : AreClean end [] (layout_of channel end).segments = merges_clean channel floor (numbers_of (grouped channel.seal_rows (kept_rows notes floor) (on_nodes (layout_of channel notes).segments))) notes end a lawful low
-          (all_left notes (layout_of channel notes).segments (joined (numbers_of groups)) (joined-numbers groups ∙ ap (map (λ s. s.number)) (joined-grouped channel.seal_rows (kept_rows notes floor) [] 0 (on_nodes (layout_of channel notes).segments)))) in
-          let same : length (rows_in (on_nodes (layout_of channel end).segments)) ≡ count_by (is_alive end) (rows_in (on_nodes (layout_of channel end).segments)) = clean_counts end (layout_of channel end).segments clean in
-          omega arith
-      | false ↦ λ e a. subst (λ l. (counts_of channel l).node_rows ≤ 2 * (counts_of channel l).node_live) (sym a) (meet_spares notes floor (rows_in (on_nodes (layout_of channel notes).segments)) low e)
-    ] refl after
+          let start : Meeting channel floor [] (joined (numbers_of (grouped channel.seal_rows (kept_rows notes floor) (on_nodes (layout_of channel notes).segments)))) notes = record {
+            lawful = front;
+            low = low;
+            clean = all_left notes (layout_of channel notes).segments (joined (numbers_of groups)) (joined-numbers groups ∙ ap (map (λ s. s.number)) (joined-grouped channel.seal_rows (kept_rows notes floor) [] 0 (on_nodes (layout_of channel notes).segments)));
+            cuts = λ b i j. absurd j;
+          } in
+          all_alive (merges_clean channel floor [] (numbers_of (grouped channel.seal_rows (kept_rows notes floor) (on_nodes (layout_of channel notes).segments))) more m notes start lawful)
+      | false ↦ λ e m. unmerged channel floor [] [] more m refl notes (meet_spares notes floor (rows_in (on_nodes (layout_of channel notes).segments)) low e)
+    ] refl merges
+  where
+    front : IsLawful channel notes
+    front = each-front (λ before n. is_lawful channel before n ≡ true) notes more lawful
+
+    all_alive : AreClean (notes ++ more) [] (layout_of channel (notes ++ more)).segments → (counts_of channel (notes ++ more)).node_rows ≤ 2 * (counts_of channel (notes ++ more)).node_live
+    all_alive clean = let same : length (rows_in (on_nodes (layout_of channel (notes ++ more)).segments)) ≡ count_by (is_alive (notes ++ more)) (rows_in (on_nodes (layout_of channel (notes ++ more)).segments)) = clean_counts (notes ++ more) (layout_of channel (notes ++ more)).segments clean in omega arith
 
 -- behind a note with a timestamp all notes are up to it
 pub all_up_to : (notes : List Note) (note : Note) (ts : ℕ) → IsJournal (notes ++ note ∷ []) → ts_of note.kind ≡ Some ts → AreUpTo ts (notes ++ note ∷ [])

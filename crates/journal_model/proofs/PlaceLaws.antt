@@ -4,13 +4,13 @@ use Rattle.std.specs.Prelude.{nat_le, false}
 use Rattle.std.specs.List.{filter, count_by, sum_by}
 use Rattle.std.proofs.lemmas.List.Sums.{length-filter, sum_by-cons}
 use Rattle.journal_model.specs.declared.notes.Note.{Note}
+use Rattle.journal_model.specs.Groups.{kept_rows}
 use Rattle.journal_model.specs.Notes.{ts_of}
 use Rattle.journal_model.specs.Journals.{UpTo, AreUpTo, is_next, IsJournal}
 use Rattle.journal_model.specs.Puts.{put_at, IsAlive}
 use Rattle.journal_model.specs.Tables.{index_of}
 use Rattle.journal_model.specs.Layouts.{Channel, Segment, rows_in, put_in, by_position, is_kept, kept_in}
 use Rattle.journal_model.specs.Runs.{IsSound}
-use Rattle.journal_model.specs.Counts.{kept_rows}
 use Rattle.log_model.specs.Places.{Placed}
 use Rattle.journal_model.proofs.WalkLaws.{by_each}
 use Rattle.journal_model.proofs.OrderLaws.{follow_up_to, next_follows}

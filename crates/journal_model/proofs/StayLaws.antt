@@ -15,10 +15,10 @@ use Rattle.journal_model.specs.Puts.{effective_put}
 use Rattle.journal_model.specs.Layouts.{Channel, Segment, BegunMerge, Layout, number_at, waiting_segment, after_boundary, with_tail, with_row, after_seal, homes_after_load, homes_after_release, with_homes, rehome, with_segments, rows_in, is_among, sources_in, others_in, by_position, is_kept, kept_in, merged_piece, begun_merge, with_merged, after_merge, after_number, layout_after, layout_of}
 use Rattle.journal_model.specs.Lawful.{is_there, is_allowed, is_lawful, IsLawful}
 use Rattle.journal_model.specs.Lists.{IsIn}
-use Rattle.journal_model.specs.Runs.{Rise, FloorsUpTo}
+use Rattle.journal_model.specs.Runs.{IsFloorUpTo, Rise, FloorsUpTo}
 use Rattle.journal_model.specs.Invariants.{NumbersRise, IsTaken, IsFresh}
 use Rattle.journal_model.proofs.WalkLaws.{by_snoc, each-parts, each-front}
-use Rattle.journal_model.proofs.ListLaws.{in_left, in_right, in_cases, in_filter, out_filter, all_in}
+use Rattle.journal_model.proofs.ListLaws.{all_front, in_left, in_right, in_cases, in_filter, out_filter, all_in}
 use Rattle.journal_model.proofs.PieceLaws.{each_filter, each_with_segment, by_position_in, in_by_position}
 use Rattle.journal_model.proofs.LayoutLaws.{layout-snoc, held, product_rises}
 use Rattle.journal_model.proofs.NumberLaws.{numbers, found, taken_more, taken_low}
@@ -185,10 +185,11 @@ there_is number (s ∷ segments) any = ⊎_elim
     (or_cases (nat_eq s.number number) (list_any (λ z. nat_eq z.number number) segments) any)
 
 -- what a merge keeps is the same list from its beginning to its commit
-pub product_same : (channel : Channel) (floor : ℕ) (notes more : List Note) (sources : List ℕ) (b : BegunMerge) → IsLawful channel (notes ++ more) → FloorsUpTo floor (notes ++ more) → FloorsUpTo floor notes → b.at ≤ length notes
+pub product_same : (channel : Channel) (floor : ℕ) (notes more : List Note) (sources : List ℕ) (b : BegunMerge) → IsLawful channel (notes ++ more) → FloorsUpTo floor (notes ++ more) → b.at ≤ length notes
     → list_all (is_there (layout_of channel notes)) sources ≡ true → list_all (is_there (layout_of channel (notes ++ more))) sources ≡ true
     → merged_piece (notes ++ more) (layout_of channel (notes ++ more)) sources b ≡ merged_piece notes (layout_of channel notes) sources b
-product_same channel floor notes more sources b lawful floors low within there still =
+product_same channel floor notes more sources b lawful floors within there still =
+    let low : FloorsUpTo floor notes = all_front (λ note. IsFloorUpTo floor note.kind) notes more floors in
     let front : IsLawful channel notes = each-front (λ before note. is_lawful channel before note ≡ true) notes more lawful in
     let old : Layout = layout_of channel notes in
     let new : Layout = layout_of channel (notes ++ more) in
