@@ -39,7 +39,8 @@ pub fn order()
 /// The rows of a journal: which are live at a timestamp, what a change is answered, and which mark a
 /// note adds.
 pub fn rows()
-    ensures alive { (notes : List Note) → IsJournal notes → (t : ℕ) (row : Row) → IsLiveAt notes t row → (x : Placed) × IsAlive notes t x × (x.row ≡ row) }
+    ensures alive { (notes : List Note) → IsJournal notes → (t : ℕ) (row : Row) → IsLiveAt notes t row
+        → (x : Placed) × IsAlive notes t x × (x.row ≡ row) }
     ensures live { (notes : List Note) → IsJournal notes → (t : ℕ) (x : Placed) → IsAlive notes t x → IsLiveAt notes t x.row }
     ensures one { (notes : List Note) → IsJournal notes → (t : ℕ) (x y : Placed) → IsAlive notes t x → IsAlive notes t y
         → y.row.key.0 ≡ x.row.key.0 → y ≡ x }
@@ -65,14 +66,17 @@ pub fn segments()
     ensures valid { (channel : Channel) (notes : List Note) (floor : ℕ) → IsLawful channel notes → FloorsUpTo floor notes
         → IsValid notes floor (layout_of channel notes) }
     ensures numbered { (channel : Channel) (notes : List Note) → IsLawful channel notes → Numbered channel (layout_of channel notes) }
-    ensures homes { (channel : Channel) (notes : List Note) → IsLawful channel notes → AllByRecursion (λ s. Once s.homes) (layout_of channel notes).segments }
-    ensures sizes { (channel : Channel) → 0 < channel.seal_rows → (notes : List Note) → IsLawful channel notes → IsSized channel (layout_of channel notes) }
+    ensures homes { (channel : Channel) (notes : List Note) → IsLawful channel notes
+        → AllByRecursion (λ s. Once s.homes) (layout_of channel notes).segments }
+    ensures sizes { (channel : Channel) → 0 < channel.seal_rows → (notes : List Note) → IsLawful channel notes
+        → IsSized channel (layout_of channel notes) }
 {}
 
 /// A merge that was begun: it is in the layout exactly while no Merge note has its number, a number
 /// keeps its piece as long as it is there, and what the merge keeps is the same from its beginning on.
 pub fn merges()
-    ensures origin { (channel : Channel) (notes : List Note) → IsLawful channel notes → AllByRecursion (λ b. IsBegun notes b) (layout_of channel notes).begun }
+    ensures origin { (channel : Channel) (notes : List Note) → IsLawful channel notes
+        → AllByRecursion (λ b. IsBegun notes b) (layout_of channel notes).begun }
     ensures begun { (channel : Channel) (notes : List Note) → IsLawful channel notes → (b : BegunMerge) → IsBegun notes b
         → begun_merge (layout_of channel notes) b.by b.number ≡ Some b }
     ensures piece { (channel : Channel) (notes more : List Note) → IsLawful channel (notes ++ more) → (s t : Segment)
@@ -102,13 +106,16 @@ pub fn parts()
 pub fn counting()
     ensures bound { (channel : Channel) (s : State) → 0 < channel.seal_rows → IsSound channel s → IsBounded channel (counts_of channel s.notes) }
     ensures groups { (most : ℕ) (size : Segment → ℕ) (segments : List Segment) → joined (grouped most size segments) ≡ segments }
-    ensures few { (channel : Channel) (notes : List Note) (floor : ℕ) (segments : List Segment) → AllByRecursion (λ s. length s.piece ≤ channel.seal_rows) segments
+    ensures few { (channel : Channel) (notes : List Note) (floor : ℕ) (segments : List Segment)
+        → AllByRecursion (λ s. length s.piece ≤ channel.seal_rows) segments
         → AllByRecursion (λ group. (sum_by (kept_rows notes floor) group ≤ channel.seal_rows) × (0 < length group))
         (grouped channel.seal_rows (kept_rows notes floor) segments) }
-    ensures kept { (notes : List Note) (floor : ℕ) (segments : List Segment) → length (kept_in notes floor segments) ≡ sum_by (kept_rows notes floor) segments }
+    ensures kept { (notes : List Note) (floor : ℕ) (segments : List Segment)
+        → length (kept_in notes floor segments) ≡ sum_by (kept_rows notes floor) segments }
     ensures sources { (segments : List Segment) → NumbersRise segments → (p : Segment → Bool) (most : ℕ) (size : Segment → ℕ) (group : List Segment)
         → IsIn group (grouped most size (filter p segments)) → sources_in (map (λ s. s.number) group) segments ≡ group }
-    ensures up_to { (notes : List Note) (note : Note) (ts : ℕ) → IsJournal (notes ++ note ∷ []) → ts_of note.kind ≡ Some ts → AreUpTo ts (notes ++ note ∷ []) }
+    ensures up_to { (notes : List Note) (note : Note) (ts : ℕ) → IsJournal (notes ++ note ∷ []) → ts_of note.kind ≡ Some ts
+        → AreUpTo ts (notes ++ note ∷ []) }
     ensures meet { (channel : Channel) (floor : ℕ) (notes more : List Note) → AreUpTo floor notes
         → MergesOf floor [] (numbers_of (meet_groups channel notes floor)) more → IsLawful channel (notes ++ more)
         → (counts_of channel (notes ++ more)).node_rows ≤ 2 * (counts_of channel (notes ++ more)).node_live }
@@ -120,9 +127,12 @@ pub fn calls()
         → may_follow s.notes (note_of by line (Put ts how row)) ≡ true → is_step channel s (note_of by line (Put ts how row)) ≡ true }
     ensures remove { (channel : Channel) (s : State) (by line : ℕ) (ts : Timestamp) (key : Key) → 1 ≤ ts.0
         → may_follow s.notes (note_of by line (Remove ts key)) ≡ true → is_step channel s (note_of by line (Remove ts key)) ≡ true }
-    ensures tick { (channel : Channel) (s : State) (by line : ℕ) (ts : Timestamp) → AreBelow ts.0 s.notes → is_step channel s (note_of by line (Tick ts)) ≡ true }
-    ensures seal { (channel : Channel) (s : State) (by line : ℕ) (ts : Timestamp) → AreBelow ts.0 s.notes → is_step channel s (note_of by line (Seal ts)) ≡ true }
-    ensures look { (channel : Channel) (s : State) (by line : ℕ) (guarantee : Timestamp) → is_step channel s (note_of by line (Look guarantee)) ≡ true }
+    ensures tick { (channel : Channel) (s : State) (by line : ℕ) (ts : Timestamp) → AreBelow ts.0 s.notes
+        → is_step channel s (note_of by line (Tick ts)) ≡ true }
+    ensures seal { (channel : Channel) (s : State) (by line : ℕ) (ts : Timestamp) → AreBelow ts.0 s.notes
+        → is_step channel s (note_of by line (Seal ts)) ≡ true }
+    ensures look { (channel : Channel) (s : State) (by line : ℕ) (guarantee : Timestamp)
+        → is_step channel s (note_of by line (Look guarantee)) ≡ true }
     ensures number { (channel : Channel) (s : State) (by line : ℕ) (floor : Timestamp) → floor.0 ≡ s.floor
         → is_step channel s (note_of by line (Number (number_at channel (layout_of channel s.notes).taken) floor)) ≡ true }
     ensures load { (channel : Channel) (s : State) (by line segment : ℕ) (from : Home) (node : ℕ)
