@@ -1,6 +1,6 @@
 -- The merges that were begun and not committed are the Number notes whose number no Merge note has.
 use Rattle.std.proofs.Common.{◌≡◌, ℕ, ◌+◌, ◌<◌, ◌≤◌, true, false, cond, not, ◌&&◌, List, [], ◌∷◌, ◌++◌, length, Option, Some, None, refl, sym, ap, subst, ◌∙◌, inl, inr, arith, append_assoc, eqb-true, eq-eqb, ne_eqb}
-use Rattle.std.specs.Prelude.{nat_eq, nat_le}
+use Rattle.std.specs.Prelude.{nat_eq}
 use Rattle.std.specs.List.{find, AllByRecursion}
 use Rattle.std.proofs.lemmas.Bool.{and_from, false≢true, eqb-false, not_from_false, false_from_ne_true}
 use Rattle.log_model.proofs.LogLaws.{each-append, each_implied}

@@ -14,7 +14,7 @@ use Rattle.journal_model.specs.declared.notes.Kind.{Kind}
 use Rattle.journal_model.specs.declared.notes.Kind.TheVariants.{Put, Remove, Tick}
 use Rattle.journal_model.specs.declared.notes.Note.{Note}
 use Rattle.journal_model.specs.Notes.{ts_of, changed_key, entries_of, log_of, live_in, tick_after, tick_from, tick_of}
-use Rattle.journal_model.specs.Journals.{UpTo, Above, AreUpTo, AreAbove, is_below, is_same, is_other_key, shares_batch, may_follow, is_dated, is_next, IsJournal}
+use Rattle.journal_model.specs.Journals.{UpTo, AreUpTo, is_below, is_same, is_other_key, shares_batch, may_follow, is_dated, is_next, IsJournal}
 use Rattle.journal_model.specs.Puts.{effective, put_at, ended, first_end, dead_at, death, is_dead_by, IsAlive}
 use Rattle.journal_model.specs.Tables.{index_of}
 use Rattle.journal_model.specs.Views.{IsLiveAt}
@@ -28,6 +28,14 @@ use Rattle.std.proofs.Common.{take}
 use Rattle.std.proofs.Common.{drop}
 use Rattle.std.specs.Ordering.{int_eq}
 use Rattle.std.proofs.Common.{eqb}
+
+-- a timestamp, if it is there, is above another
+abbrev pub Above : ℕ → Option ℕ → Type 0
+Above t None = Unit {0}
+Above t (Some ts) = t < ts
+
+abbrev pub AreAbove : ℕ → List Note → Type 0
+AreAbove t notes = AllByRecursion (λ note. Above t (ts_of note.kind)) notes
 
 -- ---- the cut
 

@@ -1,6 +1,6 @@
 -- No node has a segment twice.
 use Rattle.std.proofs.Common.{◌≡◌, ℕ, ◌+◌, ◌≤◌, Bool, true, false, cond, not, List, [], ◌∷◌, ◌++◌, length, Option, Some, None, refl, sym, ap, subst, ◌∙◌, ⊎_elim, arith, ne_eqb}
-use Rattle.std.specs.Prelude.{nat_eq, nat_le}
+use Rattle.std.specs.Prelude.{nat_eq}
 use Rattle.std.specs.List.{filter, list_any, AllByRecursion, count_by}
 use Rattle.std.proofs.lemmas.Bool.{and_parts, not-true, or_parts, cases_eq}
 use Rattle.log_model.proofs.LogLaws.{each-append}

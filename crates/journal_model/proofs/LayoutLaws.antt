@@ -1,6 +1,6 @@
 -- What every lawful journal keeps: tail and pieces are correct, cover and stand apart, and each segment has its homes.
 use Rattle.std.proofs.Common.{◌≡◌, ℕ, ◌+◌, ◌<◌, ◌≤◌, Bool, true, false, cond, not, ◌&&◌, ◌||◌, List, [], ◌∷◌, ◌++◌, length, take, drop, Option, Some, None, refl, sym, ap, subst, ◌∙◌, inl, inr, ◌⊎◌, ⊎_elim, arith, append-nil, append_assoc, eqb-true, leb-true, take-append-drop}
-use Rattle.std.specs.Prelude.{nat_eq, nat_le, option_to_list}
+use Rattle.std.specs.Prelude.{nat_eq, option_to_list}
 use Rattle.std.specs.List.{filter, find, list_any, AllByRecursion, count_by}
 use Rattle.std.proofs.lemmas.List.{length_push, nil_from_length}
 use Rattle.std.proofs.lemmas.Bool.{false≢true, and_parts, not-true, eqb-false, or_cases, le-leb}

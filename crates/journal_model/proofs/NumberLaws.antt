@@ -1,6 +1,6 @@
 -- The numbers of segments: each stands once, rises, and is given once.
 use Rattle.std.proofs.Common.{◌≡◌, ◌≢◌, ℕ, ◌+◌, ◌<◌, ◌≤◌, Bool, true, false, cond, not, ◌&&◌, List, [], ◌∷◌, ◌++◌, length, Option, Some, None, refl, sym, subst, ◌∙◌, ⊎_elim, arith, eqb-true, ltb-true, ltb-false}
-use Rattle.std.specs.Prelude.{nat_eq, nat_le, nat_lt}
+use Rattle.std.specs.Prelude.{nat_eq, nat_lt}
 use Rattle.std.specs.List.{filter, find, AllByRecursion}
 use Rattle.std.proofs.lemmas.Bool.{cases_lt, and_parts, eqb-false, false≢true}
 use Rattle.log_model.proofs.LogLaws.{each-append, each_implied}

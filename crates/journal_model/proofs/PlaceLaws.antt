@@ -19,7 +19,6 @@ use Rattle.journal_model.proofs.IndexLaws.{put_cases, index_stands}
 use Rattle.journal_model.proofs.CutLaws.{cut, alive_cut, put_note, each_get, effective_ts}
 use Rattle.journal_model.proofs.ListLaws.{count-append}
 use Rattle.journal_model.proofs.LayoutLaws.{nothing_held}
-use Rattle.journal_model.proofs.NumberLaws.{nothing_numbered}
 
 -- a row that was put behind another has no lower timestamp
 pub ts_rises : (notes : List Note) → IsJournal notes → (x y : Placed) → put_at notes x.position ≡ Some x → put_at notes y.position ≡ Some y → x.position < y.position → x.ts ≤ y.ts

@@ -22,7 +22,6 @@ use Rattle.journal_model.proofs.NoteLaws.{tick_of-snoc}
 use Rattle.journal_model.proofs.ViewLaws.{view_shows, view_stays, tick_follows, goes_on}
 use Rattle.journal_model.proofs.ListLaws.{in_left, in_right, in_cases, joined-append}
 use Rattle.journal_model.proofs.LayoutLaws.{held}
-use Rattle.journal_model.proofs.NumberLaws.{numbers}
 
 -- ---- the rows of a view
 

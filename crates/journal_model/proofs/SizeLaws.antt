@@ -1,7 +1,7 @@
 -- A tail is shorter than `seal_rows`, and no segment is longer.
 use Rattle.std.proofs.Common.{◌≡◌, ℕ, ◌<◌, ◌≤◌, true, false, cond, not, List, [], ◌∷◌, ◌++◌, length, Option, Some, None, refl, sym, subst, arith}
 use Rattle.std.proofs.lemmas.Bool.{eqb-false}
-use Rattle.std.specs.Prelude.{nat_eq, nat_le}
+use Rattle.std.specs.Prelude.{nat_eq}
 use Rattle.std.specs.List.{AllByRecursion}
 use Rattle.std.proofs.lemmas.List.{length_push}
 use Rattle.log_model.proofs.LogLaws.{each-append}
