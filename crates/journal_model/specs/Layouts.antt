@@ -16,6 +16,7 @@ pub record Channel : Type 0 where
   pub number : ℕ
   pub seal_rows : ℕ
 
+-- a sealed list of rows, its piece, with its number and its homes
 pub record Segment : Type 0 where
   pub number : ℕ
   pub piece : List Placed
@@ -48,17 +49,19 @@ number_at channel n = n * 16 + channel.number
 abbrev pub waiting_segment : ℕ → List Placed → Segment
 waiting_segment number piece = record { number = number; piece = piece; homes = Leader ∷ [] }
 
--- these rows, the tail, become a waiting segment
+-- these rows become a waiting segment with the next number, and the tail is empty again
 abbrev pub after_boundary : Channel → Layout → List Placed → Layout
 after_boundary channel layout rows = record layout { tail = []; segments = layout.segments ++ waiting_segment (number_at channel layout.taken) rows ∷ []; taken = layout.taken + 1 }
 
 abbrev pub with_tail : Layout → List Placed → Layout
 with_tail layout rows = record layout { tail = rows }
 
+-- a row joins the tail, which is sealed where it has `seal_rows` rows then
 abbrev pub with_row : Channel → Layout → Option Placed → Layout
 with_row channel layout None = layout
 with_row channel layout (Some x) = if nat_eq (length (layout.tail ++ x ∷ [])) channel.seal_rows then after_boundary channel layout (layout.tail ++ x ∷ []) else with_tail layout (layout.tail ++ x ∷ [])
 
+-- a tail that is not empty is sealed
 abbrev pub after_seal : Channel → Layout → Layout
 after_seal channel layout = if nat_eq (length layout.tail) 0 then layout else after_boundary channel layout layout.tail
 
@@ -69,6 +72,7 @@ is_home Leader Leader = true
 is_home (Node node) (Node other) = nat_eq node other
 is_home home other = false
 
+-- the leader goes, and the node comes
 abbrev pub homes_after_load : ℕ → List Home → List Home
 homes_after_load node homes = filter (λ home. not (is_home Leader home)) homes ++ Node node ∷ []
 
@@ -116,7 +120,7 @@ is_kept notes floor x = not (is_dead_by floor (death notes x))
 abbrev pub kept_in : List Note → ℕ → List Segment → List Placed
 kept_in notes floor segments = by_position (filter (is_kept notes floor) (rows_in segments))
 
--- the rows that a merge keeps of its sources: by its floor, and the notes up to its beginning
+-- the rows that a merge keeps of its sources: those not dead at or before its floor, by the notes up to its beginning
 abbrev pub merged_piece : List Note → Layout → List ℕ → BegunMerge → List Placed
 merged_piece before layout sources b = kept_in (take b.at before) b.floor (sources_in sources layout.segments)
 
@@ -136,15 +140,18 @@ abbrev pub with_merged : List Note → Layout → List ℕ → ℕ → Option Be
 with_merged before layout sources node None others = others
 with_merged before layout sources node (Some b) others = with_segment (record { number = b.number; piece = merged_piece before layout sources b; homes = Node node ∷ [] }) others
 
+-- the sources go; the merge, if it gives a segment, comes on the node under its number
 abbrev pub after_merge : List Note → ℕ → Layout → List ℕ → Option ℕ → ℕ → Layout
 after_merge before by layout sources None node = with_segments layout (others_in sources layout.segments)
 after_merge before by layout sources (Some number) node = record layout { segments = with_merged before layout sources node (begun_merge layout by number) (others_in sources layout.segments); begun = without_begun number layout.begun }
 
 -- ---- the walk
 
+-- a merge begins: its number is taken
 abbrev pub after_number : List Note → ℕ → Layout → ℕ → ℕ → Layout
 after_number before by layout segment floor = record layout { begun = layout.begun ++ record { number = segment; by = by; floor = floor; at = length before + 1 } ∷ []; taken = layout.taken + 1 }
 
+-- what a note of a kind, by a seat, makes of the layout behind the notes before
 abbrev pub layout_after : Channel → List Note → ℕ → Layout → Kind → Layout
 layout_after channel before by layout (Put ts how row) = with_row channel layout (effective_put before ts.0 how row)
 layout_after channel before by layout (Seal ts) = after_seal channel layout
