@@ -1,4 +1,5 @@
 pub mod LogLaws
+pub mod LogOrder
 pub mod RowMaps
 pub mod Counts
 pub mod Applies

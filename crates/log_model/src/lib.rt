@@ -11,7 +11,7 @@ mod shared_rows;
 mod slow;
 mod tail_rows;
 
-pub use crate::laws::stability;
+pub use crate::laws::{order, stability};
 pub use crate::logs::{Entry, Write};
 pub use crate::queries::{Plan, Query};
 pub use crate::shared_rows::SharedRow;

@@ -1,12 +1,12 @@
 //! The live rows and the hits of a search, computed from the log alone.
 
-ghost use Rattle.std.specs.Prelude.{◌≡◌, length, map, OnOk, OnErr, IfOk};
+ghost use Rattle.std.specs.Prelude.{◌≡◌, length, OnOk, OnErr, IfOk};
 ghost use Rattle.std.specs.List.{AllByRecursion};
 ghost use Rattle.std.specs.Ordering.{int_cmp};
 ghost use Rattle.std.specs.BTreeMap.{insert_entry};
 ghost use Rattle.std.specs.FinMap as fin;
 ghost use Rattle.log_model.specs.Logs.{Rows, applied, live};
-ghost use Rattle.log_model.specs.Scans.{hit_of, scan, HasDimension};
+ghost use Rattle.log_model.specs.Scans.{passes_filter, hits_found, scan, HasDimension};
 
 use crate::distances::distance;
 use crate::logs::{Entry, Write};
@@ -61,8 +61,8 @@ pub fn live_at(alloc: Global, log: &[Entry], ts: Timestamp) -> Result<Vec<Row>, 
     Ok(rows.into_values().collect(alloc)?)
 }
 
-/// The hits of a search at a timestamp: of the rows that are live there, the `k` nearest to the
-/// query's vector, in rising order.
+/// The hits of a search at a timestamp: of the rows that are live there and pass the query's filter,
+/// the `k` nearest to its vector, in rising order.
 pub fn scan_at(
     alloc: Global,
     log: &[Entry],
@@ -81,17 +81,19 @@ pub fn scan_at(
     Ok(hits)
 }
 
-/// Each row as a hit.
+/// Each row that passes the query's filter as a hit.
 fn measure(alloc: Global, rows: &[Row], plan: &Plan, query: &Query) -> Result<Vec<Hit>, Memory>
     requires { AllByRecursion (λ row. length row.vector ≡ length query.now.vector) rows.now }
-    ensures { IfOk result (λ hits. hits.items ≡ map (hit_of plan.now query.now) rows.now) }
+    ensures { IfOk result (λ hits. hits.items ≡ hits_found (passes_filter query.now.filter) plan.now query.now rows.now) }
 {
-    let mut hits = Vec::with_capacity(alloc, rows.len())?;
+    let mut hits = Vec::new(alloc);
     'rows: for row in rows {
-        hits.push(Hit {
-            distance: distance(plan.metric, &query.vector, &row.vector),
-            key: row.key,
-        })?;
+        if query.passes(row) {
+            hits.push(Hit {
+                distance: distance(plan.metric, &query.vector, &row.vector),
+                key: row.key,
+            })?;
+        }
     }
     Ok(hits)
 }

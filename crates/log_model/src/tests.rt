@@ -111,6 +111,7 @@ fn hits(
     let query = Query {
         vector: vector(rt, alloc, byte)?,
         k,
+        filter: None,
     };
     scan_at(
         alloc,

@@ -80,6 +80,7 @@ fn search(rt: &impl Abort, alloc: Global, level: Level) -> Result<Request, Memor
     let query = Query {
         vector: vector(rt, alloc, 0x0f)?,
         k: 2,
+        filter: None,
     };
     let wait = true;
     Ok(Request {

@@ -111,7 +111,7 @@ abbrev pub row_in : ℕ → Data → Result Row Reason
 row_in dim d = and_then (key_in d) (λ key. and_then (vector_in dim d) (λ vector. Ok (row_of key vector)))
 
 abbrev pub query_of : List Bool → ℕ → Query
-query_of vector k = record { vector = vector; k = k }
+query_of vector k = record { vector = vector; k = k; filter = None }
 
 abbrev pub query_in : ℕ → Data → Result Query Reason
 query_in dim d = and_then (vector_in dim d) (λ vector. and_then (k_in d) (λ k. Ok (query_of vector k)))

@@ -93,7 +93,11 @@ fn query_in(alloc: Global, value: &Value, dim: u32) -> Result<Query, LineError>
 {
     let vector = vector_in(alloc, value, dim)?;
     match k_in(value) {
-        Ok(k) => Ok(Query { vector, k }),
+        Ok(k) => Ok(Query {
+            vector,
+            k,
+            filter: None,
+        }),
         Err(reason) => Err(LineError::Refused(reason)),
     }
 }
