@@ -1,9 +1,9 @@
 -- After a meet at least half of the rows on nodes are alive.
-use Rattle.std.proofs.Common.{◌≡◌, ℕ, ℤ, ◌+◌, ◌*◌, ◌<◌, ◌≤◌, true, false, cond, not, ◌&&◌, List, [], ◌∷◌, ◌++◌, map, length, take, Option, Some, None, refl, sym, ap, subst, ◌∙◌, inl, inr, ⊎_elim, arith, append_assoc, append-nil, eqb-true, eq-eqb}
+use Rattle.std.proofs.Common.{◌≡◌, ℕ, ℤ, ◌+◌, ◌*◌, ◌<◌, ◌≤◌, true, false, cond, not, ◌&&◌, List, [], ◌∷◌, ◌++◌, map, length, take, Option, Some, None, refl, sym, ap, subst, ◌∙◌, inl, inr, ⊎_elim, arith, append_assoc, append-nil, eqb-true}
 use Rattle.std.specs.Prelude.{is_some, nat_eq, IfSome}
 use Rattle.std.specs.Option.{option_or}
-use Rattle.std.specs.List.{find, list_any, AllByRecursion, count_by, sum_by}
-use Rattle.std.proofs.lemmas.Bool.{cases_lt, and_parts, or_left, or_right, not_from_false}
+use Rattle.std.specs.List.{find, AllByRecursion, count_by, sum_by}
+use Rattle.std.proofs.lemmas.Bool.{cases_lt, and_parts, not_from_false}
 use Rattle.std.proofs.lemmas.List.{take_all, take-append-le, length_push, length-append, map-append}
 use Rattle.log_model.proofs.LogLaws.{each-append, each_implied}
 use Rattle.journal_model.specs.declared.notes.Kind.TheVariants.{Number, Merge}
@@ -26,6 +26,7 @@ use Rattle.journal_model.proofs.NumberLaws.{numbers, taken_low}
 use Rattle.journal_model.proofs.BegunLaws.{begun_origin}
 use Rattle.journal_model.proofs.CountLaws.{kept_alive, count_alike, meet_spares, AreClean, merge_cleans, clean_counts, joined-grouped, each_grouped}
 use Rattle.journal_model.proofs.OrderLaws.{follow_up_to, next_follows}
+use Rattle.journal_model.proofs.GroupLaws.{number_any}
 use Rattle.std.proofs.lemmas.List.Sums.{count_by-le-length}
 
 or_none : (o : Option ℕ) → option_or o None ≡ o
@@ -163,15 +164,10 @@ joined-numbers : (groups : List (List Segment)) → joined (numbers_of groups) �
 joined-numbers [] = refl
 joined-numbers (g ∷ groups) = ap (λ l. map (λ s. s.number) g ++ l) (joined-numbers groups) ∙ sym (map-append (λ (s : Segment). s.number) g (joined groups))
 
-number_among : (n : ℕ) (ns : List ℕ) → IsIn n ns → list_any (λ number. nat_eq n number) ns ≡ true
-number_among n [] i = absurd i
-number_among n (m ∷ ns) (inl e) = or_left (nat_eq n m) (list_any (λ number. nat_eq n number) ns) (eq-eqb n m e)
-number_among n (m ∷ ns) (inr i) = or_right (nat_eq n m) (list_any (λ number. nat_eq n number) ns) (number_among n ns i)
-
 all_left : (notes : List Note) (segments : List Segment) (left : List ℕ) → left ≡ map (λ s. s.number) (on_nodes segments) → AreClean notes left segments
 unfolding AreClean
 all_left notes segments left is s i on = inl (subst (λ l. is_among l s ≡ true) (sym is)
-    (number_among s.number (map (λ z. z.number) (on_nodes segments)) (in_map (λ (z : Segment). z.number) s (on_nodes segments) (in_filter (λ z. not (is_waiting z)) s segments i (not_from_false (is_waiting s) on)))))
+    (number_any s.number (map (λ z. z.number) (on_nodes segments)) (in_map (λ (z : Segment). z.number) s (on_nodes segments) (in_filter (λ z. not (is_waiting z)) s segments i (not_from_false (is_waiting s) on)))))
 
 -- where a meet has no group, the rows on nodes and their deaths stay
 unmerged : (channel : Channel) (floor : ℕ) (taken : List ℕ) (groups : List (List ℕ)) (more : List Note) → MergesOf floor taken groups more → groups ≡ []

@@ -21,7 +21,9 @@ and_groups (x ∷ group) groups = (x ∷ group) ∷ groups
 -- a group takes the next item while the sizes sum to at most `most`; else the next group begins
 abbrev pub grouped_from : {X : Type 0} → ℕ → (X → ℕ) → List X → ℕ → List X → List (List X)
 grouped_from most size group sum [] = and_groups group []
-grouped_from most size group sum (x ∷ xs) = if nat_le (sum + size x) most then grouped_from most size (group ++ x ∷ []) (sum + size x) xs else and_groups group (grouped_from most size (x ∷ []) (size x) xs)
+grouped_from most size group sum (x ∷ xs) =
+    if nat_le (sum + size x) most then grouped_from most size (group ++ x ∷ []) (sum + size x) xs
+    else and_groups group (grouped_from most size (x ∷ []) (size x) xs)
 
 abbrev pub grouped : {X : Type 0} → ℕ → (X → ℕ) → List X → List (List X)
 grouped most size xs = grouped_from most size [] 0 xs
@@ -35,7 +37,8 @@ small_in channel notes floor segments = filter (λ s. nat_le (2 * kept_rows note
 
 -- the groups that a compaction merges: those of two segments and more
 abbrev pub small_groups : Channel → List Note → ℕ → List (List Segment)
-small_groups channel notes floor = filter (λ group. nat_le 2 (length group)) (grouped channel.seal_rows (kept_rows notes floor) (small_in channel notes floor (layout_of channel notes).segments))
+small_groups channel notes floor = filter (λ group. nat_le 2 (length group))
+    (grouped channel.seal_rows (kept_rows notes floor) (small_in channel notes floor (layout_of channel notes).segments))
 
 -- more than half of the rows are dead at or before the floor
 abbrev pub is_mostly_dead : List Note → ℕ → List Placed → Bool
@@ -43,7 +46,9 @@ is_mostly_dead notes floor rows = nat_lt (2 * count_by (is_kept notes floor) row
 
 -- the groups that a meet merges: all segments on nodes, where most of their rows are dead
 abbrev pub meet_groups : Channel → List Note → ℕ → List (List Segment)
-meet_groups channel notes floor = if is_mostly_dead notes floor (rows_in (on_nodes (layout_of channel notes).segments)) then grouped channel.seal_rows (kept_rows notes floor) (on_nodes (layout_of channel notes).segments) else []
+meet_groups channel notes floor =
+    if is_mostly_dead notes floor (rows_in (on_nodes (layout_of channel notes).segments))
+    then grouped channel.seal_rows (kept_rows notes floor) (on_nodes (layout_of channel notes).segments) else []
 
 -- ---- the merges of a meet
 

@@ -51,7 +51,11 @@ waiting_segment number piece = record { number = number; piece = piece; homes = 
 
 -- these rows become a waiting segment with the next number, and the tail is empty again
 abbrev pub after_boundary : Channel → Layout → List Placed → Layout
-after_boundary channel layout rows = record layout { tail = []; segments = layout.segments ++ waiting_segment (number_at channel layout.taken) rows ∷ []; taken = layout.taken + 1 }
+after_boundary channel layout rows = record layout {
+  tail = [];
+  segments = layout.segments ++ waiting_segment (number_at channel layout.taken) rows ∷ [];
+  taken = layout.taken + 1;
+}
 
 abbrev pub with_tail : Layout → List Placed → Layout
 with_tail layout rows = record layout { tail = rows }
@@ -59,7 +63,9 @@ with_tail layout rows = record layout { tail = rows }
 -- a row joins the tail, which is sealed where it has `seal_rows` rows then
 abbrev pub with_row : Channel → Layout → Option Placed → Layout
 with_row channel layout None = layout
-with_row channel layout (Some x) = if nat_eq (length (layout.tail ++ x ∷ [])) channel.seal_rows then after_boundary channel layout (layout.tail ++ x ∷ []) else with_tail layout (layout.tail ++ x ∷ [])
+with_row channel layout (Some x) =
+    if nat_eq (length (layout.tail ++ x ∷ [])) channel.seal_rows then after_boundary channel layout (layout.tail ++ x ∷ [])
+    else with_tail layout (layout.tail ++ x ∷ [])
 
 -- a tail that is not empty is sealed
 abbrev pub after_seal : Channel → Layout → Layout
@@ -143,13 +149,19 @@ with_merged before layout sources node (Some b) others = with_segment (record { 
 -- the sources go; the merge, if it gives a segment, comes on the node under its number
 abbrev pub after_merge : List Note → ℕ → Layout → List ℕ → Option ℕ → ℕ → Layout
 after_merge before by layout sources None node = with_segments layout (others_in sources layout.segments)
-after_merge before by layout sources (Some number) node = record layout { segments = with_merged before layout sources node (begun_merge layout by number) (others_in sources layout.segments); begun = without_begun number layout.begun }
+after_merge before by layout sources (Some number) node = record layout {
+  segments = with_merged before layout sources node (begun_merge layout by number) (others_in sources layout.segments);
+  begun = without_begun number layout.begun;
+}
 
 -- ---- the walk
 
 -- a merge begins: its number is taken
 abbrev pub after_number : List Note → ℕ → Layout → ℕ → ℕ → Layout
-after_number before by layout segment floor = record layout { begun = layout.begun ++ record { number = segment; by = by; floor = floor; at = length before + 1 } ∷ []; taken = layout.taken + 1 }
+after_number before by layout segment floor = record layout {
+  begun = layout.begun ++ record { number = segment; by = by; floor = floor; at = length before + 1 } ∷ [];
+  taken = layout.taken + 1;
+}
 
 -- what a note of a kind, by a seat, makes of the layout behind the notes before
 abbrev pub layout_after : Channel → List Note → ℕ → Layout → Kind → Layout

@@ -19,6 +19,7 @@ pub record Shown : Type 0 where
   pub row : Row
   pub mark : Option ℕ
 
+-- what a look gives of a channel: the floor, the tick, and the parts
 pub record View : Type 0 where
   pub floor : ℕ
   pub tick : ℕ
@@ -31,7 +32,7 @@ shown notes x = record { position = x.position; ts = x.ts; row = x.row; mark = d
 abbrev pub StandsFor : List Note → List Shown → List Placed → Type 0
 StandsFor notes part piece = part ≡ map (shown notes) piece
 
--- a row of a part after more notes
+-- a row of a part after more notes: they may mark it, if it was not marked
 abbrev pub advanced : List Note → Shown → Shown
 advanced more s = record { position = s.position; ts = s.ts; row = s.row; mark = option_or s.mark (first_end s.row.key.0 more) }
 
@@ -39,6 +40,7 @@ advanced more s = record { position = s.position; ts = s.ts; row = s.row; mark =
 abbrev pub merged_parts : ℕ → List (List Shown) → List Shown
 merged_parts floor parts = rising_by (λ s. s.position) (filter (λ s. not (is_dead_by floor s.mark)) (joined parts))
 
+-- a row is visible at a timestamp: it was put by then, and is not dead by then
 abbrev pub is_visible : ℕ → Shown → Bool
 is_visible t s = nat_le s.ts t && not (is_dead_by t s.mark)
 
@@ -46,6 +48,7 @@ is_visible t s = nat_le s.ts t && not (is_dead_by t s.mark)
 abbrev pub IsSeen : View → ℕ → Row → Type 0
 IsSeen view t row = (s : Shown) × IsIn s (joined view.parts) × (is_visible t s ≡ true) × (s.row ≡ row)
 
+-- a row is that of its key in the live rows of the log
 abbrev pub IsLiveAt : List Note → ℕ → Row → Type 0
 IsLiveAt notes t row = fin.get (live (log_of notes) t) row.key.0 ≡ Some row
 
@@ -67,4 +70,8 @@ places (s ∷ segments) = copies s ++ places segments
 
 -- the view of a journal: the tail, and a part for each place of each segment
 abbrev pub view_of : Channel → ℕ → List Note → View
-view_of channel floor notes = record { floor = floor; tick = tick_of notes; parts = map (map (shown notes)) ((layout_of channel notes).tail ∷ places (layout_of channel notes).segments) }
+view_of channel floor notes = record {
+  floor = floor;
+  tick = tick_of notes;
+  parts = map (map (shown notes)) ((layout_of channel notes).tail ∷ places (layout_of channel notes).segments);
+}
