@@ -3,10 +3,12 @@
 //! their calls in these words; this crate proves the laws that every list of steps keeps.
 #![tactic(auto)]
 
+mod examples;
 mod laws;
 mod notes;
 mod refusals;
 
+pub use crate::examples::{worked_batches, worked_groups, worked_journals};
 pub use crate::laws::{calls, counting, every_run, merges, order, parts, rows, segments};
 pub use crate::notes::{Home, Kind, Note, PutKind};
 pub use crate::refusals::MoveError;
