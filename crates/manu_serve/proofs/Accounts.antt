@@ -23,7 +23,8 @@ use Rattle.legal_output.specs.Outputs.{asks_of, asked_of, start_of, printed, tex
 use Rattle.legal_output.specs.Runs.{Plain, Serves, Run, begun}
 use Rattle.legal_output.proofs.Grown.{flat_map-push}
 use Rattle.legal_output.proofs.Stands.{run-push, at_start, ran, is_legal}
-use Rattle.manu_serve.specs.Answerings.{asked_in, IsLegalFrom, IsAnswered, Adds, IsPartly}
+use Rattle.manu_serve.specs.Answerings.{asked_in, IsAnswered, Adds, IsPartly}
+use Rattle.manu_serve.specs.Servings.{IsLegalFrom}
 
 -- a line that is no request draws nothing and changes nothing
 pub refused_serves : (start : Start) (plain : Plain) (reason : Reason) → plain.tick < plain.clock → Serves start plain (Bad reason) (answers.Refused reason) plain

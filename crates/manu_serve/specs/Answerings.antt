@@ -1,4 +1,4 @@
--- What is kept while an input is answered line by line, and what the output then is.
+-- This file promises nothing: it says what is kept while an input is answered line by line.
 use Rattle.std.specs.Prelude.{◌≡◌, ℕ, ◌+◌, ◌≤◌, List, [], ◌∷◌, ◌++◌, map, length, Some}
 use Rattle.std.specs.List.{AllByRecursion as Each}
 use Rattle.coarse_lists.specs.declared.collections.Collection.{Collection}
@@ -16,15 +16,6 @@ use Rattle.legal_output.specs.Runs.{Plain, Serves, Run, begun}
 -- what each of some lines asks
 abbrev pub asked_in : Collection → List (List ℕ) → List Asked
 asked_in collection lines = map (λ line. asked_of (request_of collection line)) lines
-
--- a legal output whose drawn numbers are none of them below `least`
-pub record IsLegalFrom (least : ℕ) (input output : List ℕ) : Type 0 where
-  pub collection : Collection
-  pub header : header_of (first_line input) ≡ Some collection
-  pub lines : List Line
-  pub text : output ≡ printed lines
-  pub legal : IsLegal (start_of collection) (asks_of collection input) lines
-  pub drawn_from : Each (λ n. least ≤ n) (all_drawn lines)
 
 -- the output so far, and the lines and the run that stand behind it
 pub record IsAnswered (start : Start) (least : ℕ) (asks : List Asked) (output : List ℕ) (now : Plain) : Type 0 where

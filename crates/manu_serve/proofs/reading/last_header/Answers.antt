@@ -1,5 +1,6 @@
 use Rattle.std.proofs.Common.{Some, None}
-use Rattle.manu_serve.specs.Readings.{KnowsHeader, IsOpen}
+use Rattle.manu_serve.specs.Events.{IsOpen}
+use Rattle.manu_serve.specs.Readings.{KnowsHeader}
 use Rattle.manu_serve.proofs.Prefixes.{last_line, last_refused, known_now}
 use Rattle.manu_serve.proofs.reading.last_header.Goals as goal
 
