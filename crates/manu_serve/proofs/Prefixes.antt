@@ -1,9 +1,10 @@
 -- What the first bytes of an input already say.
-use Rattle.std.proofs.Common.{◌≡◌, ◌≢◌, ◌⊎◌, inl, inr, ℕ, zero, suc, ◌+◌, ◌<◌, ◌≤◌, List, [], ◌∷◌, ◌++◌, length, length-take, get_or, take, drop, take_all, length-drop, ◌-◌, ap, sym, ◌∙◌, subst, arith, Option, Some, None, IsSome, IfSome, append-nil, append_assoc, refl, ◌↔◌, length-append}
+use Rattle.std.proofs.Common.{◌≡◌, ◌≢◌, ◌⊎◌, inl, inr, ℕ, zero, suc, ◌+◌, ◌<◌, ◌≤◌, List, [], ◌∷◌, ◌++◌, length, length-take, get_or, take, drop, take_all, length-drop, ◌-◌, ap, sym, ◌∙◌, subst, arith, Option, Some, None, IsSome, IfSome, Result, Ok, Err, IfOk, IfErr, append-nil, append_assoc, refl, ◌↔◌, length-append}
 use Rattle.std.specs.Io.KnownBytes.{Consumes, Keeps, IsAtEnd, Appends}
 use Rattle.std.proofs.Math.Seq.{take-add}
 use Rattle.coarse_lists.specs.Collections.{IsInRange}
 use Rattle.manu_edge.specs.Faults.{Rose}
+use Rattle.manu_serve.specs.declared.reading.Input.{Input}
 use Rattle.manu_serve.specs.declared.reading.ReadError.{ReadError}
 use Rattle.manu_serve.specs.declared.reading.ReadError.TheVariants.{BadHeader, Fault, Limit, Memory}
 use Rattle.std.proofs.lemmas.List.{get_or-take, length-take-le}
@@ -15,7 +16,7 @@ use Rattle.input_lines.specs.Lines.{lines_of, first_line, first_or_empty}
 use Rattle.input_lines.specs.Limits.{IsShort, HasFewLines, IsWithin, LimitsBehind}
 use Rattle.input_lines.proofs.Cuts.{lines_of-open, first_line-ended, first_line-open, first_line-longer}
 use Rattle.manu_serve.specs.Events.{HasBadHeader, PassesLimit, IsOpen, GoesOn}
-use Rattle.manu_serve.specs.Readings.{HasReadCause, EndsReading, EndedReading, KnowsHeader, IsSoFar}
+use Rattle.manu_serve.specs.Readings.{IsRead, HasReadCause, EndsReading, EndedReading, KnowsHeader, IsSoFar}
 
 pub first_is_short : (lines : List (List ℕ)) → AllByRecursion IsShort lines → IsShort (first_or_empty lines)
 first_is_short [] h = omega arith
@@ -67,6 +68,16 @@ last_line bytes o unended e = ap header_of (first_line-open bytes unended) ∙ e
 
 pub last_refused : (error : ReadError) (bytes : List ℕ) → IsOpen bytes → (error ≡ Memory) ⊎ ((error ≡ BadHeader) × (header_of bytes ≡ None)) → (error ≡ Memory) ⊎ ((error ≡ BadHeader) × (header_of (first_line bytes) ≡ None))
 last_refused error bytes unended why = elim why [ inl e ↦ inl e | inr h ↦ inr (h.0, last_line bytes None unended h.1) ]
+
+-- the same, of an answer that is handed on
+pub last_ok : (r : Result Collection ReadError) (bytes : List ℕ) → IsOpen bytes → IfOk r (λ collection. header_of bytes ≡ Some collection) → IfOk r (λ collection. header_of (first_line bytes) ≡ Some collection)
+last_ok (Ok collection) bytes unended e = last_line bytes (Some collection) unended e
+last_ok (Err error) bytes unended e = tt
+
+pub last_err : (r : Result Collection ReadError) (bytes : List ℕ) → IsOpen bytes → IfErr r (λ error. (error ≡ Memory) ⊎ ((error ≡ BadHeader) × (header_of bytes ≡ None)))
+    → IfErr r (λ error. (error ≡ Memory) ⊎ ((error ≡ BadHeader) × (header_of (first_line bytes) ≡ None)))
+last_err (Ok collection) bytes unended why = tt
+last_err (Err error) bytes unended why = last_refused error bytes unended why
 
 -- the limits on lines hold of what was read, where they are kept behind it
 pub kept_now : (bytes : List ℕ) (lines : ℕ) (current : Option ℕ) (found : Option Collection) → lines ≤ MAX_LINES → IsSoFar bytes lines current found → IsWithin bytes
@@ -207,6 +218,24 @@ ended_cause BadHeader a c bytes before now h k e on = (
 ended_cause Limit a c bytes before now h k e on = absurd h
 ended_cause Fault a c bytes before now h k e on = absurd h
 ended_cause Memory a c bytes before now h k e on = tt
+
+-- what is handed on where the input has come to its end
+pub ended_read : (r : Result Input ReadError) (a c : Option (List ℕ)) (bytes : List ℕ) → Consumes a c bytes → IsAtEnd c
+    → IfOk r (λ input. input.bytes.items ≡ bytes) → IfOk r (λ input. IsWithin input.bytes.items) → IfOk r (λ input. header_of (first_line input.bytes.items) ≡ Some input.collection)
+    → IfOk r (λ input. IsInRange input.collection) → IfOk r (λ input. IsRead a c input.bytes.items input.collection)
+ended_read (Ok input) a c bytes k e same within header in_range = record {
+  consumed = subst (λ (l : List ℕ). Consumes a c l) (sym same) k;
+  ended = e;
+  within = within;
+  header = header;
+  in_range = in_range;
+}
+ended_read (Err error) a c bytes k e same within header in_range = tt
+
+pub ended_error : (r : Result Input ReadError) (a c : Option (List ℕ)) (bytes : List ℕ) (before now : ℕ) → IfErr r (λ error. EndedReading error bytes) → Consumes a c bytes → IsAtEnd c → GoesOn bytes
+    → IfErr r (λ error. HasReadCause error a c before now)
+ended_error (Ok input) a c bytes before now h k e on = tt
+ended_error (Err error) a c bytes before now h k e on = ended_cause error a c bytes before now h k e on
 
 rose_earlier : (before mid now : ℕ) → Rose mid now → before ≤ mid → Rose before now
 rose_earlier before mid now h later = omega arith

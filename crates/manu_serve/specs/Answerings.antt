@@ -1,16 +1,14 @@
 -- This file promises nothing: it says what is kept while an input is answered line by line.
-use Rattle.std.specs.Prelude.{◌≡◌, ℕ, ◌+◌, ◌≤◌, List, [], ◌∷◌, ◌++◌, map, length, Some}
+use Rattle.std.specs.Prelude.{◌≡◌, ℕ, ◌+◌, ◌≤◌, List, ◌++◌, map, length}
 use Rattle.std.specs.List.{AllByRecursion as Each}
 use Rattle.coarse_lists.specs.declared.collections.Collection.{Collection}
 use Rattle.answer_lines.specs.declared.answers.Answer.{Answer}
 use Rattle.answer_lines.specs.Lines.{text_of}
-use Rattle.request_lines.specs.Headers.{header_of}
 use Rattle.request_lines.specs.Requests.{request_of}
-use Rattle.input_lines.specs.Lines.{first_line}
 use Rattle.legal_output.specs.Lines.{Asked, Line, Start, drawn}
 use Rattle.legal_output.specs.Printed.{all_drawn}
-use Rattle.legal_output.specs.Legal.{Numbered, IsLegal}
-use Rattle.legal_output.specs.Outputs.{asked_of, asks_of, start_of, printed}
+use Rattle.legal_output.specs.Legal.{Numbered}
+use Rattle.legal_output.specs.Outputs.{asked_of, printed}
 use Rattle.legal_output.specs.Runs.{Plain, Serves, Run, begun}
 
 -- what each of some lines asks

@@ -9,7 +9,7 @@ use Rattle.input_lines.specs.Limits.{IsWithin}
 use Rattle.legal_output.specs.Lines.{Line}
 use Rattle.legal_output.specs.Printed.{all_drawn}
 use Rattle.legal_output.specs.Legal.{IsLegal}
-use Rattle.legal_output.specs.Outputs.{asks_of, start_of, printed, IsLegalOutput}
+use Rattle.legal_output.specs.Outputs.{asks_of, start_of, printed}
 
 abbrev pub running : List (List ℕ)
 running = codes "run" ∷ []

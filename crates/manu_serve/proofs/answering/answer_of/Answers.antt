@@ -1,5 +1,4 @@
-use Rattle.manu_serve.specs.Paces.{least_of}
-use Rattle.manu_serve.proofs.Accounts.{caller_alone, drawn_later}
+use Rattle.manu_serve.proofs.Accounts.{caller_alone}
 use Rattle.manu_serve.proofs.answering.answer_of.Goals as goal
 
 pub serve-requires-clause-caller : goal.serve-requires-clause-caller
