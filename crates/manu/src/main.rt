@@ -50,9 +50,7 @@ fn read_arguments(rt: &HostRuntime) -> Result<Vec<Text>, Status> {
     })?;
     let mut words = Vec::new(rt.alloc());
     for argument in arguments.skip(1) {
-        words
-            .push(Text::of(argument))
-            .map_err(|_| Status::Memory)?;
+        words.push(Text::of(argument)).map_err(|_| Status::Memory)?;
     }
     Ok(words)
 }

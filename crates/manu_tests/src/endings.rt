@@ -90,8 +90,18 @@ fn a_fault_comes_exactly_where_a_call_fails(rt: HostRuntime) -> Result<(), Fail>
             &FixedMoments(0),
         )?;
         let read = call > 2;
-        assert_eq!(rt; status, if read { Status::Done } else { Status::ReadFault });
-        assert_eq!(rt; output.as_slice(), if read { whole.as_slice() } else { &[] });
+        assert_eq!(rt;
+            status,
+            if read {
+                Status::Done
+            } else {
+                Status::ReadFault
+            }
+        );
+        assert_eq!(rt;
+            output.as_slice(),
+            if read { whole.as_slice() } else { &[] }
+        );
         let (status, output) = run(
             alloc,
             &Given {
@@ -101,8 +111,18 @@ fn a_fault_comes_exactly_where_a_call_fails(rt: HostRuntime) -> Result<(), Fail>
             &FixedMoments(0),
         )?;
         let written = call > 1;
-        assert_eq!(rt; status, if written { Status::Done } else { Status::WriteFault });
-        assert_eq!(rt; output.as_slice(), if written { whole.as_slice() } else { &[] });
+        assert_eq!(rt;
+            status,
+            if written {
+                Status::Done
+            } else {
+                Status::WriteFault
+            }
+        );
+        assert_eq!(rt;
+            output.as_slice(),
+            if written { whole.as_slice() } else { &[] }
+        );
     }
     Ok(())
 }
