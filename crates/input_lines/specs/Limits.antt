@@ -16,6 +16,8 @@ pub record IsWithin (input : List ℕ) : Type 0 where
   pub bytes : length input ≤ 67_108_864
   pub lines : HasFewLines input
 
+-- ---- what follows promises nothing: it is kept while the bytes come
+
 -- the limits on lines for what comes behind some lines, of which the last has this many bytes if it
 -- has not ended
 abbrev pub LimitsBehind : ℕ → Option ℕ → List (List ℕ) → Type 0

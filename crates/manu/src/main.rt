@@ -1,56 +1,9 @@
-//! The program: it makes the real parts, calls `serve`, says on standard error what went wrong, and
-//! ends with the number of the status. All that it promises is the contract of `serve`, and the
-//! number and the text of each status.
+//! The program. Its stored run is the shortest session.
 #![tactic(auto)]
 
-use manu_edge::{MapKeeper, OpenGate, StandardInput, StandardOutput, SystemClock};
-use manu_serve::{Ended, Status, serve};
-use row_types::Text;
-use std::env;
-use std::io::ErrorKind;
+use manu_program::run;
 use std::process::ExitCode;
 
 fn main(rt: HostRuntime) -> ExitCode {
-    let status = run(&rt);
-    if let Some(text) = status.text() {
-        // Standard error that can't be written leaves the status alone to tell.
-        let _ = eprintln!(rt; "{text}");
-    }
-    ExitCode::from(status.number())
-}
-
-fn run(rt: &HostRuntime) -> Status {
-    let words = match read_arguments(rt) {
-        Ok(words) => words,
-        Err(status) => return status,
-    };
-    let alloc = rt.alloc();
-    let keeper = MapKeeper::new(alloc, Vec::new(alloc));
-    let mut input = StandardInput::new(rt.stdin());
-    let mut output = StandardOutput::new(rt.stdout());
-    let clock = SystemClock::new(rt);
-    let Ended { status, keeper: _ } = serve(
-        rt,
-        alloc,
-        &words,
-        &mut input,
-        &mut output,
-        keeper,
-        &clock,
-        &OpenGate,
-    );
-    status
-}
-
-// The words behind the program's name. Words that are no UTF-8 are none of the forms.
-fn read_arguments(rt: &HostRuntime) -> Result<Vec<Text>, Status> {
-    let arguments = env::args(rt).map_err(|error| match error.kind() {
-        ErrorKind::OutOfMemory => Status::Memory,
-        _ => Status::Usage,
-    })?;
-    let mut words = Vec::new(rt.alloc());
-    for argument in arguments.skip(1) {
-        words.push(Text::of(argument)).map_err(|_| Status::Memory)?;
-    }
-    Ok(words)
+    run(&rt)
 }

@@ -3,6 +3,7 @@
 use crate::runs::{Given, joined, run, run_from};
 use manu_edge::{Failed, FixedMoments, Moments, Source};
 use manu_serve::Status;
+use std::alloc::Global;
 use std::cell::Cell;
 use std::test::Fail;
 
@@ -60,11 +61,22 @@ fn each_ending_has_its_number_and_its_text(rt: HostRuntime) {
     }
 }
 
+// How a run of one insert ends, and what it writes, where these calls of its source and its sink fail.
+fn failing(alloc: Global, reads: &[u32], writes: &[u32]) -> Result<(Status, Vec<u8>), Fail> {
+    let input = joined(alloc, &[CREATE, INSERT])?;
+    let given = Given {
+        words: &["run", "--still"],
+        input: &input,
+        failing_reads: reads,
+        failing_writes: writes,
+    };
+    run(alloc, &given, &FixedMoments(0))
+}
+
 // The source is asked twice, for the input and for its end, and the output is written at once.
 #[test]
 fn a_fault_comes_exactly_where_a_call_fails(rt: HostRuntime) -> Result<(), Fail> {
     let alloc = rt.alloc();
-    let input = joined(alloc, &[CREATE, INSERT])?;
     let whole = joined(
         alloc,
         &[
@@ -73,56 +85,23 @@ fn a_fault_comes_exactly_where_a_call_fails(rt: HostRuntime) -> Result<(), Fail>
             "{\"answer\":\"end\",\"live\":1,\"ts\":2}",
         ],
     )?;
-    let given = Given {
-        words: &["run", "--still"],
-        input: &input,
-        failing_reads: &[],
-        failing_writes: &[],
-    };
     for call in 1..=8 {
-        let failing = [call];
-        let (status, output) = run(
-            alloc,
-            &Given {
-                failing_reads: &failing,
-                ..given
-            },
-            &FixedMoments(0),
-        )?;
-        let read = call > 2;
-        assert_eq!(rt;
-            status,
-            if read {
-                Status::Done
-            } else {
-                Status::ReadFault
-            }
-        );
-        assert_eq!(rt;
-            output.as_slice(),
-            if read { whole.as_slice() } else { &[] }
-        );
-        let (status, output) = run(
-            alloc,
-            &Given {
-                failing_writes: &failing,
-                ..given
-            },
-            &FixedMoments(0),
-        )?;
-        let written = call > 1;
-        assert_eq!(rt;
-            status,
-            if written {
-                Status::Done
-            } else {
-                Status::WriteFault
-            }
-        );
-        assert_eq!(rt;
-            output.as_slice(),
-            if written { whole.as_slice() } else { &[] }
-        );
+        let (status, output) = failing(alloc, &[call], &[])?;
+        if call > 2 {
+            assert_eq!(rt; status, Status::Done);
+            assert_eq!(rt; output.as_slice(), whole.as_slice());
+        } else {
+            assert_eq!(rt; status, Status::ReadFault);
+            assert_eq!(rt; output.len(), 0);
+        }
+        let (status, output) = failing(alloc, &[], &[call])?;
+        if call > 1 {
+            assert_eq!(rt; status, Status::Done);
+            assert_eq!(rt; output.as_slice(), whole.as_slice());
+        } else {
+            assert_eq!(rt; status, Status::WriteFault);
+            assert_eq!(rt; output.len(), 0);
+        }
     }
     Ok(())
 }
@@ -140,37 +119,40 @@ impl Source for Drops<'_> {
     ghost faults = { λ _. 0 };
 
     fn read(&mut self, into: &mut [u8]) -> Result<usize, Failed> {
-        let (Some(place), Some(byte)) = (into.first_mut(), self.bytes.get(self.given)) else {
+        if into.is_empty() || self.given >= self.bytes.len() {
             return Ok(0);
-        };
-        *place = *byte;
-        self.given = self.given.saturating_add(1);
+        }
+        into[0] = self.bytes[self.given];
+        self.given += 1;
         Ok(1)
     }
 }
 
+// How a run ends that is given its input a byte at a time, and how many bytes it took.
+fn drop_by_drop(alloc: Global, lines: &[&str]) -> Result<(Status, usize), Fail> {
+    let input = joined(alloc, lines)?;
+    let given = Given {
+        words: &["run", "--still"],
+        input: &[],
+        failing_reads: &[],
+        failing_writes: &[],
+    };
+    let mut source = Drops {
+        bytes: &input,
+        given: 0,
+    };
+    let (status, _) = run_from(alloc, &given, &mut source, &FixedMoments(0))?;
+    Ok((status, source.given))
+}
+
 #[test]
 fn nothing_is_read_behind_a_bad_header(rt: HostRuntime) -> Result<(), Fail> {
-    let alloc = rt.alloc();
-    let cases = [
-        (joined(alloc, &["{}", CREATE])?, Status::BadHeader, 3),
-        (joined(alloc, &[CREATE, "{"])?, Status::Done, 26),
-    ];
-    for (input, wanted, taken) in &cases {
-        let given = Given {
-            words: &["run", "--still"],
-            input: &[],
-            failing_reads: &[],
-            failing_writes: &[],
-        };
-        let mut source = Drops {
-            bytes: input.as_slice(),
-            given: 0,
-        };
-        let (status, _) = run_from(alloc, &given, &mut source, &FixedMoments(0))?;
-        assert_eq!(rt; status, *wanted);
-        assert_eq!(rt; source.given, *taken);
-    }
+    let (status, taken) = drop_by_drop(rt.alloc(), &["{}", CREATE])?;
+    assert_eq!(rt; status, Status::BadHeader);
+    assert_eq!(rt; taken, 3);
+    let (status, taken) = drop_by_drop(rt.alloc(), &[CREATE, "{"])?;
+    assert_eq!(rt; status, Status::Done);
+    assert_eq!(rt; taken, 26);
     Ok(())
 }
 
