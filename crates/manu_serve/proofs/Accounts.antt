@@ -1,10 +1,9 @@
 -- Answering line by line.
-use Rattle.std.proofs.Common.{◌≡◌, ℕ, zero, suc, Bool, true, false, ◌&&◌, if◌then◌else◌, codes, Option, None, option_map, option_and_then, Result, Ok, Err, ◌+◌, ◌*◌, ◌<◌, ◌≤◌, min, List, [], ◌∷◌, ◌++◌, map, length, refl, sym, ap, ◌∙◌, subst, arith, Some, add-zero, append-nil, append_assoc, length-append, ◌^◌, ◌-◌}
+use Rattle.std.proofs.Common.{◌≡◌, ℕ, suc, Bool, true, false, ◌&&◌, if◌then◌else◌, codes, Option, None, option_map, option_and_then, Result, Ok, Err, ◌+◌, ◌<◌, ◌≤◌, List, [], ◌∷◌, ◌++◌, map, length, refl, sym, ap, ◌∙◌, subst, arith, Some, add-zero, append-nil, append_assoc, length-append}
 use Rattle.std.specs.List.{AllByRecursion as Each, flat_map}
 use Rattle.hybrid_time.specs.Times.{of_moment}
 use Rattle.coarse_lists.specs.declared.collections.Collection.{Collection}
 use Rattle.answer_lines.specs.declared.reasons.Reason.{Reason}
-use Rattle.answer_lines.specs.declared.answers.Answer.{Answer}
 use Rattle.answer_lines.specs.declared.answers.Answer.TheVariants as answers
 use Rattle.answer_lines.specs.Lines.{text_of}
 use Rattle.request_lines.specs.Headers.{header_of}
@@ -18,12 +17,13 @@ use Rattle.request_lines.specs.Requests.{request_of, and_then, json_in, object_i
 use Rattle.log_model.proofs.LogLaws.{each-append, each_implied}
 use Rattle.legal_output.specs.Lines.{Asked, Bad, Finish, Line, Start, drawn}
 use Rattle.legal_output.specs.Printed.{all_drawn}
-use Rattle.legal_output.specs.Legal.{Numbered, IsLegal}
+use Rattle.legal_output.specs.Legal.{Numbered}
 use Rattle.legal_output.specs.Outputs.{asks_of, asked_of, start_of, printed, text_of_line, IsLegalOutput}
-use Rattle.legal_output.specs.Runs.{Plain, Serves, Run, begun}
+use Rattle.legal_output.specs.Runs.{Plain, Serves, begun}
 use Rattle.legal_output.proofs.Grown.{flat_map-push}
 use Rattle.legal_output.proofs.Stands.{run-push, at_start, ran, is_legal}
-use Rattle.manu_serve.specs.Answerings.{asked_in, IsLegalFrom, IsAnswered, Adds, IsPartly}
+use Rattle.manu_serve.specs.Answerings.{asked_in, IsAnswered, Adds, IsPartly}
+use Rattle.manu_serve.specs.Servings.{IsLegalFrom}
 
 -- a line that is no request draws nothing and changes nothing
 pub refused_serves : (start : Start) (plain : Plain) (reason : Reason) → plain.tick < plain.clock → Serves start plain (Bad reason) (answers.Refused reason) plain
