@@ -1,3 +1,4 @@
+pub mod Broken
 pub mod Grown
 pub mod Later
 pub mod Placed

@@ -1,3 +1,4 @@
+pub mod Examples
 pub mod Legal
 pub mod Lines
 pub mod Outputs

@@ -4,6 +4,8 @@
 //! above keeps an account of a run, line by line, and relies on the law that such a run is legal.
 #![tactic(auto)]
 
+mod examples;
 mod laws;
 
+pub use crate::examples::clauses_are_needed;
 pub use crate::laws::runs_are_legal;
