@@ -1,6 +1,6 @@
 //! Worked examples: one line of each kind.
 
-use crate::{Answer, MeetReply, Reason, WriteReply, Wrote, line};
+use crate::{Answer, EndReply, MeetReply, Named, Reason, WriteReply, Wrote, line};
 use hybrid_time::Timestamp;
 use row_types::{Distance, Hit, Key, List};
 use std::test::Fail;
@@ -62,7 +62,7 @@ fn hits_show_their_distance_and_key(rt: HostRuntime) -> Result<(), Fail> {
 fn the_other_answers_are_shown(rt: HostRuntime) -> Result<(), Fail> {
     let mut ticks = Vec::new(rt.alloc());
     ticks.push(Timestamp(2))?;
-    let end = MeetReply {
+    let end = EndReply {
         ts: Timestamp(u64::MAX),
         live: 1,
     };

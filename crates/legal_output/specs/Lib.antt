@@ -2,5 +2,6 @@ pub mod Examples
 pub mod Legal
 pub mod Lines
 pub mod Outputs
+pub mod Phases
 pub mod Printed
 pub mod Runs

@@ -2,4 +2,3 @@ pub mod Offers
 pub mod Served
 pub mod Keys
 pub mod Firsts
-pub mod Examples

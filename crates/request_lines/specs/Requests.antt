@@ -147,6 +147,10 @@ abbrev pub FitsAsk : ℕ → Ask → Type 0
 FitsAsk dim (asks.Write write) = FitsDimension dim write
 FitsAsk dim (asks.Search query level wait) = FitsQuery dim query
 FitsAsk dim asks.Tick = Unit {0}
+-- no line is read as one of these yet
+FitsAsk dim (asks.Get key level wait) = ⊥
+FitsAsk dim asks.Seal = ⊥
+FitsAsk dim asks.Meet = ⊥
 
 abbrev pub Fits : Collection → Request → Type 0
 Fits collection request = FitsAsk collection.dim request.what

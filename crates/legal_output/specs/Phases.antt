@@ -1,0 +1,123 @@
+-- What a phase owes: facts of its own values and of its own lines, from which its output is legal. A phase is what
+-- stands between two meets.
+use Rattle.std.specs.Prelude.{◌≡◌, ℕ, ℤ, ◌+◌, ◌<◌, ◌≤◌, List, [], ◌∷◌, ◌++◌, Option, Some, None, IfSome, max, nat_le, nat_lt, ⊤}
+use Rattle.std.specs.Option.{option_map}
+use Rattle.std.specs.Ordering.{int_cmp, eq_by_cmp}
+use Rattle.std.specs.List.{AllByRecursion as Each, AllZip, filter, flat_map}
+use Rattle.std.specs.FinMap as fin
+use Rattle.log_model.specs.declared.logs.Write.{Write}
+use Rattle.log_model.specs.declared.logs.Entry.{Entry}
+use Rattle.log_model.specs.Logs.{key_of, live}
+use Rattle.log_model.specs.Scans.{scan}
+use Rattle.answer_lines.specs.declared.answers.MeetReply.{MeetReply}
+use Rattle.answer_lines.specs.declared.answers.Answer.{Answer}
+use Rattle.answer_lines.specs.declared.answers.Answer.TheVariants as answers
+use Rattle.request_lines.specs.declared.requests.Ask.{Ask}
+use Rattle.request_lines.specs.declared.requests.Ask.TheVariants as asks
+use Rattle.legal_output.specs.Lines.{Asked, Bad, Given, Finish, Line, Start, channel_of, caller_of, changes_of, written_of, seals_of, met_of, ended_of, drawn, stamps, IsOfKind}
+use Rattle.legal_output.specs.Printed.{Event, Tail, Past, ordered, entries_of, events_of, walk, all_drawn, all_stamps, all_ticks_told, lines_of, greatest, write_behind, phase_failures}
+use Rattle.legal_output.specs.Legal.{AtEach, RefusedRightly, Differ, Rising, reply, HasLevel, InOrder, PendingRightly, AreTails, Counts}
+
+-- the next number, the number of the last meet, the timestamp of each caller's last write, the log of each channel,
+-- what happened to its tail, and the failures of the phase so far
+pub record Running : Type 0 where
+  pub clock : ℕ
+  pub met : ℕ
+  pub written : ℕ → ℕ
+  pub logs : ℕ → List Entry
+  pub events : ℕ → List Event
+  pub failures : ℕ
+
+-- the entries of a key
+abbrev pub of_key : ℤ → List Entry → List Entry
+of_key key log = filter (λ entry. eq_by_cmp int_cmp key (key_of entry.write)) log
+
+-- a log that has the entries of each key as the log of the key's channel has them
+abbrev pub IsWhole : ℕ → (ℕ → List Entry) → List Entry → Type 0
+IsWhole channels logs log = (key : ℤ) → of_key key log ≡ of_key key (logs (channel_of channels key))
+
+-- the tails of the channels at a timestamp, and just before it
+abbrev pub tail_at : ℕ → (ℕ → List Event) → ℕ → ℕ → Tail
+tail_at seal_rows events ts channel = walk seal_rows (filter (λ event. nat_le event.ts ts) (events channel))
+
+abbrev pub tail_below : ℕ → (ℕ → List Event) → ℕ → ℕ → Tail
+tail_below seal_rows events ts channel = walk seal_rows (filter (λ event. nat_lt event.ts ts) (events channel))
+
+-- each change is answered by the log of its key's channel
+abbrev pub RepliedByChannel : ℕ → (ℕ → List Entry) → Line → Type 0
+RepliedByChannel channels logs line =
+    IfSome (written_of line.answer) (λ written. AllZip (λ change what. what ≡ reply (logs (channel_of channels (key_of change))) written.ts change) (changes_of line.asked) written.replies)
+
+abbrev pub ShowsChannels : Start → (ℕ → List Entry) → Ask → Answer → Type 0
+ShowsChannels start logs (asks.Search query level wait) (answers.Hits now guarantee ts hits) =
+    (log : List Entry) × IsWhole start.channels logs log × (hits ≡ scan log ts.0 start.plan query)
+ShowsChannels start logs (asks.Get key level wait) (answers.Found now guarantee ts row) =
+    option_map (λ named. named.row) row ≡ fin.get (live (logs (channel_of start.channels key.0)) ts.0) key.0
+ShowsChannels start logs ask answer = ⊤
+
+-- each search shows the whole of the logs, and each get the log of its key's channel
+abbrev pub ContentByChannel : Start → (ℕ → List Entry) → Line → Type 0
+ContentByChannel start logs line = elim line.asked [
+  | Bad reason ↦ ⊤
+  | Given request ↦ ShowsChannels start logs request.what line.answer
+  | Finish ↦ ⊤
+]
+
+-- what stands behind a line of a caller in this phase, where its last write before the phase was at `written`
+abbrev pub past_in_phase : ℕ → ℕ → ℕ → List Line → Past
+past_in_phase channels met written earlier = record {
+  last_meet = met;
+  last_stamp = greatest (all_stamps earlier);
+  last_write = write_behind written earlier;
+  known_tick = λ channel. max met (greatest (all_ticks_told channels channel earlier));
+}
+
+-- a line of a caller, behind its other lines in this phase
+pub record Called (channels met written : ℕ) (earlier : List Line) (line : Line) : Type 0 where
+  pub level : HasLevel channels (past_in_phase channels met written earlier) line.asked line.answer
+  pub order : InOrder (past_in_phase channels met written earlier) line.answer
+  pub pending : PendingRightly channels (past_in_phase channels met written earlier) line.asked line.answer
+
+-- a line of a phase: it is a caller's, or is refused, and no meet
+pub record InPhase (start : Start) (old new : Running) (line : Line) : Type 0 where
+  pub kind : IsOfKind start line.asked line.answer
+  pub refusal : RefusedRightly line.asked line.answer
+  pub drawn : Each (λ n. old.clock ≤ n) (drawn line.answer)
+  pub stamped : Each (λ n. n < new.clock) (stamps line.answer)
+  pub unmet : met_of line.answer ≡ None
+  pub unended : ended_of line.answer ≡ None
+  pub replied : RepliedByChannel start.channels new.logs line
+  pub content : ContentByChannel start new.logs line
+  pub sealed : AreTails (tail_below start.seal_rows new.events) 0 (seals_of line.answer)
+
+pub record PhaseFacts (start : Start) (old new : Running) (block : List Line) : Type 0 where
+  pub later : old.clock ≤ new.clock
+  pub met : new.met ≡ old.met
+  pub written : (caller : ℕ) → new.written caller ≡ write_behind (old.written caller) (lines_of (Some caller) block)
+  pub failures : new.failures ≡ phase_failures old.failures block
+  -- what the logs and the tails grew by: of each key, and of each channel, what the lines did, by their timestamps
+  pub more : ℕ → List Entry
+  pub grown : (channel : ℕ) → new.logs channel ≡ old.logs channel ++ more channel
+  pub entries : (key : ℤ) → of_key key (more (channel_of start.channels key)) ≡ of_key key (ordered (λ entry. entry.ts.0) (flat_map entries_of block))
+  pub events : (channel : ℕ) → new.events channel ≡ old.events channel ++ ordered (λ event. event.ts) (flat_map (events_of start.channels channel) block)
+  -- the lines
+  pub lines : Each (InPhase start old new) block
+  pub differ : Differ (all_drawn block)
+  pub callers : (caller : ℕ) → AtEach (Called start.channels old.met (old.written caller)) [] (lines_of (Some caller) block)
+
+-- a meet, on shards at rest
+pub record MeetFacts (start : Start) (old new : Running) (line : Line) : Type 0 where
+  pub counted : MeetReply
+  pub asked : IsOfKind start line.asked (answers.Met counted)
+  pub alone : caller_of line.asked ≡ None
+  pub answer : line.answer ≡ answers.Met counted
+  pub drawn : old.clock ≤ counted.ts.0
+  pub later : counted.ts.0 < new.clock
+  pub met : new.met ≡ counted.ts.0
+  pub written : new.written ≡ old.written
+  pub failures : new.failures ≡ 0
+  pub logs : new.logs ≡ old.logs
+  pub events : new.events ≡ old.events
+  pub log : List Entry
+  pub whole : IsWhole start.channels old.logs log
+  pub counts : Counts start log (tail_at start.seal_rows old.events counted.ts.0) old.failures counted
