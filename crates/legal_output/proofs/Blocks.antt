@@ -116,9 +116,141 @@ module _ (start : Start) (clock : ℕ) (before block : List Line) (low : AreBelo
   pub printed_tail-blocks : (ts channel : ℕ) → ts < clock → printed_tail start before ts channel ≡ printed_tail start (before ++ block) ts channel
   printed_tail-blocks ts channel early = ap (walk start.seal_rows) (sym
       (ap (filter (λ e. nat_le e.ts ts)) (printed_events-blocks channel)
-      ∙ kept-more (λ e. nat_le e.ts ts) (λ e. clock ≤ e.ts) (λ e from. lt-leb ts e.ts (lt_over ts clock e.ts early from)) (printed_events start channel before) _ (block_events_from channel)))
+      ∙ kept-more (λ e. nat_le e.ts ts) (λ e. clock ≤ e.ts) (λ e from. lt-leb _ _ (lt_over ts clock e.ts early from)) (printed_events start channel before) _ (block_events_from channel)))
 
   pub tail_before-blocks : (ts channel : ℕ) → ts < clock → tail_before start before ts channel ≡ tail_before start (before ++ block) ts channel
   tail_before-blocks ts channel early = ap (walk start.seal_rows) (sym
       (ap (filter (λ e. nat_lt e.ts ts)) (printed_events-blocks channel)
-      ∙ kept-more (λ e. nat_lt e.ts ts) (λ e. clock ≤ e.ts) (λ e from. le-ltb ts e.ts (le_over ts clock e.ts early from)) (printed_events start channel before) _ (block_events_from channel)))
+      ∙ kept-more (λ e. nat_lt e.ts ts) (λ e. clock ≤ e.ts) (λ e from. le-ltb _ _ (le_over ts clock e.ts early from)) (printed_events start channel before) _ (block_events_from channel)))
+
+-- ---- counts
+
+pub tails_more : (f g : ℕ → ℕ → Tail) (Q : ℕ → Type 0) → ((ts channel : ℕ) → Q ts → f ts channel ≡ g ts channel) → (channel : ℕ) (seals : List (Timestamp × ℕ))
+    → Each Q (map (λ seal. seal.0.0) seals) → AreTails f channel seals → AreTails g channel seals
+tails_more f g Q same channel [] all tails = tt
+tails_more f g Q same channel (seal ∷ seals) all tails =
+    (tails.0 ∙ ap (λ tail. tail.rows) (same seal.0.0 channel all.0), tails_more f g Q same (channel + 1) seals all.1 tails.1)
+
+pub counts_more : (start : Start) (log other : List Entry) (tails others : ℕ → Tail) (failures more : ℕ) (counted : MeetReply)
+    → live log counted.ts.0 ≡ live other counted.ts.0 → tails ≡ others → failures ≡ more → Counts start log tails failures counted → Counts start other others more counted
+counts_more start log other tails others failures more counted rows same fails counts =
+    subst (λ t. Counts start other t more counted) same
+    (subst (λ n. Counts start other tails n counted) fails (record {
+      live = counts.live ∙ ap (λ r. fin.len r) rows;
+      tail = counts.tail;
+      node_live = counts.node_live;
+      merged = counts.merged;
+      least = counts.least;
+      most = counts.most;
+      waiting = counts.waiting;
+      failed = counts.failed;
+    }))
+
+module _ (start : Start) (clock : ℕ) (before block : List Line) (low : AreBelow clock before) (high : AreFrom clock block) where
+  log_same : (ts : ℕ) → ts < clock → live (printed_log start before) ts ≡ live (printed_log start (before ++ block)) ts
+  log_same ts early =
+      sym (live-more (printed_log start before) _ ts (above ts clock _ early (log_from start clock before block low high)))
+      ∙ sym (ap (λ log. live log ts) (printed_log-blocks start clock before block low high))
+
+  tails_same : (ts : ℕ) → ts < clock → printed_tail start before ts ≡ printed_tail start (before ++ block) ts
+  tails_same ts early = λ i. λ channel. printed_tail-blocks start clock before block low high ts channel early i
+
+  counted_later : (earlier : List Line) (answer : Answer) → CountsRightly start before earlier answer → Each (λ n. n < clock) (stamps answer) → CountsRightly start (before ++ block) earlier answer
+  counted_later earlier answers.Created right early = record { sealed = tt; met = tt; ended = tt }
+  counted_later earlier (answers.Wrote reply) right early = record { sealed = tt; met = tt; ended = tt }
+  counted_later earlier (answers.Hits now guarantee ts hits) right early = record { sealed = tt; met = tt; ended = tt }
+  counted_later earlier (answers.Found now guarantee ts row) right early = record { sealed = tt; met = tt; ended = tt }
+  counted_later earlier (answers.Pending now guarantee channel tick) right early = record { sealed = tt; met = tt; ended = tt }
+  counted_later earlier (answers.Ticked ticks) right early = record { sealed = tt; met = tt; ended = tt }
+  counted_later earlier (answers.Sealed seals) right early = record {
+    sealed = tails_more (tail_before start before) (tail_before start (before ++ block)) (λ ts. ts < clock)
+        (λ ts channel low_ts. tail_before-blocks start clock before block low high ts channel low_ts) 0 seals early right.sealed;
+    met = tt;
+    ended = tt;
+  }
+  counted_later earlier (answers.Met counted) right early = record {
+    sealed = tt;
+    met = counts_more start (printed_log start before) (printed_log start (before ++ block)) (printed_tail start before counted.ts.0) (printed_tail start (before ++ block) counted.ts.0)
+        (phase_failures 0 earlier) (phase_failures 0 earlier) counted (log_same counted.ts.0 early.0) (tails_same counted.ts.0 early.0) refl right.met;
+    ended = tt;
+  }
+  counted_later earlier (answers.End counted) right early = record {
+    sealed = tt;
+    met = tt;
+    ended = right.ended ∙ ap (λ r. fin.len r) (log_same counted.ts.0 early.0);
+  }
+  counted_later earlier (answers.Refused reason) right early = record { sealed = tt; met = tt; ended = tt }
+
+-- ---- blocks
+
+-- the lines so far are legal, and all that they show is below the clock
+pub record SoFar (start : Start) (clock : ℕ) (lines : List Line) : Type 0 where
+  pub m0 : start.m0 < clock
+  pub stamped : AreBelow clock lines
+  pub kinds : Each (λ line. IsOfKind start line.asked line.answer) lines
+  pub refusals : Each (λ line. RefusedRightly line.asked line.answer) lines
+  pub numbers : HasNumbers start (all_drawn lines)
+  pub writes : Each (λ line. Replied (printed_log start lines) line.asked line.answer) lines
+  pub content : Each (λ line. HasContent start.plan (printed_log start lines) line.asked line.answer) lines
+  pub levels : AtEach (λ earlier line. HasLevel start.channels (past_of start earlier line) line.asked line.answer) [] lines
+  pub order : AtEach (λ earlier line. InOrder (past_of start earlier line) line.answer) [] lines
+  pub pending : AtEach (λ earlier line. PendingRightly start.channels (past_of start earlier line) line.asked line.answer) [] lines
+  pub meets : AtEach (λ earlier line. CountsRightly start lines earlier line.answer) [] lines
+
+-- further lines, whose numbers are from the clock on, are legal behind them
+pub record Extends (start : Start) (clock end : ℕ) (before block : List Line) : Type 0 where
+  pub later : clock ≤ end
+  pub from : AreFrom clock block
+  pub differ : Differ (all_drawn block)
+  pub stamped : AreBelow end block
+  pub kinds : Each (λ line. IsOfKind start line.asked line.answer) block
+  pub refusals : Each (λ line. RefusedRightly line.asked line.answer) block
+  pub writes : Each (λ line. Replied (printed_log start (before ++ block)) line.asked line.answer) block
+  pub content : Each (λ line. HasContent start.plan (printed_log start (before ++ block)) line.asked line.answer) block
+  pub levels : AtEach (λ earlier line. HasLevel start.channels (past_of start earlier line) line.asked line.answer) before block
+  pub order : AtEach (λ earlier line. InOrder (past_of start earlier line) line.answer) before block
+  pub pending : AtEach (λ earlier line. PendingRightly start.channels (past_of start earlier line) line.asked line.answer) before block
+  pub meets : AtEach (λ earlier line. CountsRightly start (before ++ block) earlier line.answer) before block
+
+lt_later : (n a b : ℕ) → a ≤ b → n < a → n < b
+lt_later n a b more low = omega arith
+
+drawn_below : (clock : ℕ) (lines : List Line) → AreBelow clock lines → Each (λ n. n < clock) (all_drawn lines)
+drawn_below clock lines low = each-flat_map (λ n. n < clock) (λ line. drawn line.answer) lines
+    (each_implied (λ line. Each (λ n. n < clock) (stamps line.answer)) (λ line. Each (λ n. n < clock) (drawn line.answer)) (λ line all. drawn_shown (λ n. n < clock) line.answer all) lines low)
+
+pub extended : (start : Start) (clock end : ℕ) (before block : List Line) → SoFar start clock before → Extends start clock end before block → SoFar start end (before ++ block)
+extended start clock end before block sofar more =
+    let log : List Entry = ordered (λ e. e.ts.0) (flat_map entries_of block) in
+    let grown : printed_log start (before ++ block) ≡ printed_log start before ++ log = printed_log-blocks start clock before block sofar.stamped more.from in
+    let high : IsFrom clock log = log_from start clock before block sofar.stamped more.from in
+    let from : Each (λ n. clock ≤ n) (all_drawn block) = each-flat_map (λ n. clock ≤ n) (λ line. drawn line.answer) block more.from in
+    record {
+      m0 = lt_later start.m0 clock end more.later sofar.m0;
+      stamped = each-append (λ line. Each (λ n. n < end) (stamps line.answer)) before block
+          (each_implied (λ line. Each (λ n. n < clock) (stamps line.answer)) (λ line. Each (λ n. n < end) (stamps line.answer))
+          (λ line all. each_implied (λ n. n < clock) (λ n. n < end) (λ n low. lt_later n clock end more.later low) (stamps line.answer) all) before sofar.stamped)
+          more.stamped;
+      kinds = each-append (λ line. IsOfKind start line.asked line.answer) before block sofar.kinds more.kinds;
+      refusals = each-append (λ line. RefusedRightly line.asked line.answer) before block sofar.refusals more.refusals;
+      numbers = subst (HasNumbers start) (sym (flat_map-append (λ line. drawn line.answer) before block)) (record {
+        differ = differ-append clock (all_drawn before) (all_drawn block) sofar.numbers.differ more.differ (drawn_below clock before sofar.stamped) from;
+        above = each-append (λ n. start.m0 < n) (all_drawn before) (all_drawn block) sofar.numbers.above
+            (each_implied (λ n. clock ≤ n) (λ n. start.m0 < n) (λ n above. lt_later start.m0 clock n above sofar.m0) (all_drawn block) from);
+      });
+      writes = each-append (λ line. Replied (printed_log start (before ++ block)) line.asked line.answer) before block
+          (each_both (λ line. Each (λ n. n < clock) (stamps line.answer)) (λ line. Replied (printed_log start before) line.asked line.answer) (λ line. Replied (printed_log start (before ++ block)) line.asked line.answer)
+          (λ line low right. subst (λ l. Replied l line.asked line.answer) (sym grown) (replied-more (printed_log start before) log clock line.asked line.answer low high right)) before sofar.stamped sofar.writes)
+          more.writes;
+      content = each-append (λ line. HasContent start.plan (printed_log start (before ++ block)) line.asked line.answer) before block
+          (each_both (λ line. Each (λ n. n < clock) (stamps line.answer)) (λ line. HasContent start.plan (printed_log start before) line.asked line.answer) (λ line. HasContent start.plan (printed_log start (before ++ block)) line.asked line.answer)
+          (λ line low right. subst (λ l. HasContent start.plan l line.asked line.answer) (sym grown) (content-more start.plan (printed_log start before) log clock line.asked line.answer low high right)) before sofar.stamped sofar.content)
+          more.content;
+      levels = at_each-append (λ earlier line. HasLevel start.channels (past_of start earlier line) line.asked line.answer) [] before block sofar.levels more.levels;
+      order = at_each-append (λ earlier line. InOrder (past_of start earlier line) line.answer) [] before block sofar.order more.order;
+      pending = at_each-append (λ earlier line. PendingRightly start.channels (past_of start earlier line) line.asked line.answer) [] before block sofar.pending more.pending;
+      meets = at_each-append (λ earlier line. CountsRightly start (before ++ block) earlier line.answer) [] before block
+          (at_each_both (λ earlier line. CountsRightly start before earlier line.answer) (λ earlier line. CountsRightly start (before ++ block) earlier line.answer) (λ line. Each (λ n. n < clock) (stamps line.answer))
+          (λ earlier line right early. counted_later start clock before block sofar.stamped more.from earlier line.answer right early) [] before sofar.meets sofar.stamped)
+          more.meets;
+    }

@@ -27,10 +27,10 @@ from : (ts clock : ℕ) (more : List Entry) → ts < clock → IsFrom clock more
 from ts clock more low high = each_implied (λ e. clock ≤ e.ts.0) (λ e. ts ≤ e.ts.0) (λ e h. le_over ts clock e.ts.0 low h) more high
 
 pub zip_implied : {X Y : Type 0} (R S : X → Y → Type 0) → ((x : X) (y : Y) → R x y → S x y) → (xs : List X) (ys : List Y) → AllZip R xs ys → AllZip S xs ys
-pub zip_implied R S f [] [] all = tt
-pub zip_implied R S f [] (y ∷ ys) all = absurd all
-pub zip_implied R S f (x ∷ xs) [] all = absurd all
-pub zip_implied R S f (x ∷ xs) (y ∷ ys) all = (f x y all.0, zip_implied R S f xs ys all.1)
+zip_implied R S f [] [] all = tt
+zip_implied R S f [] (y ∷ ys) all = absurd all
+zip_implied R S f (x ∷ xs) [] all = absurd all
+zip_implied R S f (x ∷ xs) (y ∷ ys) all = (f x y all.0, zip_implied R S f xs ys all.1)
 
 pub replied-more : (log more : List Entry) (clock : ℕ) (asked : Asked) (answer : Answer) → Each (λ n. n < clock) (stamps answer) → IsFrom clock more
     → Replied log asked answer → Replied (log ++ more) asked answer

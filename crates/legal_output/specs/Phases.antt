@@ -10,13 +10,14 @@ use Rattle.log_model.specs.declared.logs.Entry.{Entry}
 use Rattle.log_model.specs.Logs.{key_of, live}
 use Rattle.log_model.specs.Scans.{scan}
 use Rattle.answer_lines.specs.declared.answers.MeetReply.{MeetReply}
+use Rattle.answer_lines.specs.declared.answers.EndReply.{EndReply}
 use Rattle.answer_lines.specs.declared.answers.Answer.{Answer}
 use Rattle.answer_lines.specs.declared.answers.Answer.TheVariants as answers
 use Rattle.request_lines.specs.declared.requests.Ask.{Ask}
 use Rattle.request_lines.specs.declared.requests.Ask.TheVariants as asks
-use Rattle.legal_output.specs.Lines.{Asked, Bad, Given, Finish, Line, Start, channel_of, caller_of, changes_of, written_of, seals_of, met_of, ended_of, drawn, stamps, IsOfKind}
+use Rattle.legal_output.specs.Lines.{Asked, Given, Finish, Line, Start, channel_of, caller_of, changes_of, written_of, seals_of, met_of, ended_of, drawn, stamps, IsOfKind}
 use Rattle.legal_output.specs.Printed.{Event, Tail, Past, ordered, entries_of, events_of, walk, all_drawn, all_stamps, all_ticks_told, lines_of, greatest, write_behind, phase_failures}
-use Rattle.legal_output.specs.Legal.{AtEach, RefusedRightly, Differ, Rising, reply, HasLevel, InOrder, PendingRightly, AreTails, Counts}
+use Rattle.legal_output.specs.Legal.{AtEach, RefusedRightly, Differ, Rising, reply, HasLevel, InOrder, PendingRightly, AreTails, Counts, CountsLive}
 
 -- the next number, the number of the last meet, the timestamp of each caller's last write, the log of each channel,
 -- what happened to its tail, and the failures of the phase so far
@@ -44,9 +45,9 @@ abbrev pub tail_below : ℕ → (ℕ → List Event) → ℕ → ℕ → Tail
 tail_below seal_rows events ts channel = walk seal_rows (filter (λ event. nat_lt event.ts ts) (events channel))
 
 -- each change is answered by the log of its key's channel
-abbrev pub RepliedByChannel : ℕ → (ℕ → List Entry) → Line → Type 0
-RepliedByChannel channels logs line =
-    IfSome (written_of line.answer) (λ written. AllZip (λ change what. what ≡ reply (logs (channel_of channels (key_of change))) written.ts change) (changes_of line.asked) written.replies)
+abbrev pub RepliedByChannel : ℕ → (ℕ → List Entry) → Asked → Answer → Type 0
+RepliedByChannel channels logs asked answer =
+    IfSome (written_of answer) (λ written. AllZip (λ change what. what ≡ reply (logs (channel_of channels (key_of change))) written.ts change) (changes_of asked) written.replies)
 
 abbrev pub ShowsChannels : Start → (ℕ → List Entry) → Ask → Answer → Type 0
 ShowsChannels start logs (asks.Search query level wait) (answers.Hits now guarantee ts hits) =
@@ -56,12 +57,9 @@ ShowsChannels start logs (asks.Get key level wait) (answers.Found now guarantee 
 ShowsChannels start logs ask answer = ⊤
 
 -- each search shows the whole of the logs, and each get the log of its key's channel
-abbrev pub ContentByChannel : Start → (ℕ → List Entry) → Line → Type 0
-ContentByChannel start logs line = elim line.asked [
-  | Bad reason ↦ ⊤
-  | Given request ↦ ShowsChannels start logs request.what line.answer
-  | Finish ↦ ⊤
-]
+abbrev pub ContentByChannel : Start → (ℕ → List Entry) → Asked → Answer → Type 0
+ContentByChannel start logs (Given request) answer = ShowsChannels start logs request.what answer
+ContentByChannel start logs asked answer = ⊤
 
 -- what stands behind a line of a caller in this phase, where its last write before the phase was at `written`
 abbrev pub past_in_phase : ℕ → ℕ → ℕ → List Line → Past
@@ -86,8 +84,8 @@ pub record InPhase (start : Start) (old new : Running) (line : Line) : Type 0 wh
   pub stamped : Each (λ n. n < new.clock) (stamps line.answer)
   pub unmet : met_of line.answer ≡ None
   pub unended : ended_of line.answer ≡ None
-  pub replied : RepliedByChannel start.channels new.logs line
-  pub content : ContentByChannel start new.logs line
+  pub replied : RepliedByChannel start.channels new.logs line.asked line.answer
+  pub content : ContentByChannel start new.logs line.asked line.answer
   pub sealed : AreTails (tail_below start.seal_rows new.events) 0 (seals_of line.answer)
 
 pub record PhaseFacts (start : Start) (old new : Running) (block : List Line) : Type 0 where
@@ -107,9 +105,9 @@ pub record PhaseFacts (start : Start) (old new : Running) (block : List Line) : 
 
 -- a meet, on shards at rest
 pub record MeetFacts (start : Start) (old new : Running) (line : Line) : Type 0 where
+  pub caller : ℕ
   pub counted : MeetReply
-  pub asked : IsOfKind start line.asked (answers.Met counted)
-  pub alone : caller_of line.asked ≡ None
+  pub asked : line.asked ≡ Given (record { caller = caller; what = asks.Meet })
   pub answer : line.answer ≡ answers.Met counted
   pub drawn : old.clock ≤ counted.ts.0
   pub later : counted.ts.0 < new.clock
@@ -121,3 +119,35 @@ pub record MeetFacts (start : Start) (old new : Running) (line : Line) : Type 0 
   pub log : List Entry
   pub whole : IsWhole start.channels old.logs log
   pub counts : Counts start log (tail_at start.seal_rows old.events counted.ts.0) old.failures counted
+
+-- the end of the input, on shards at rest
+pub record EndFacts (start : Start) (old : Running) (line : Line) : Type 0 where
+  pub counted : EndReply
+  pub asked : line.asked ≡ Finish
+  pub answer : line.answer ≡ answers.End counted
+  pub drawn : old.clock ≤ counted.ts.0
+  pub log : List Entry
+  pub whole : IsWhole start.channels old.logs log
+  pub counts : CountsLive log counted
+
+-- the values that a run starts with
+pub record Begins (start : Start) (first : Running) : Type 0 where
+  pub m0 : start.m0 < first.clock
+  pub met : first.met ≡ start.m0
+  pub written : (caller : ℕ) → first.written caller ≡ 0
+  pub whole : IsWhole start.channels first.logs start.base
+  pub events : (channel : ℕ) → first.events channel ≡ []
+  pub failures : first.failures ≡ 0
+
+-- a phase, and the meet that ends it
+pub record Phase : Type 0 where
+  pub lines : List Line
+  pub meet : Line
+
+abbrev pub lines_in : List Phase → List Line
+lines_in phases = flat_map (λ phase. phase.lines ++ phase.meet ∷ []) phases
+
+abbrev pub RunOver : Start → Running → List Phase → Running → Type 0
+RunOver start old [] new = new ≡ old
+RunOver start old (phase ∷ phases) new =
+    (ran : Running) × (after : Running) × PhaseFacts start old ran phase.lines × MeetFacts start ran after phase.meet × RunOver start after phases new

@@ -162,9 +162,10 @@ write_behind ts [] = ts
 write_behind ts (line ∷ lines) = write_behind (write_or ts (written_of line.answer)) lines
 
 -- a read whose snapshot was served tells a tick of the channels that it needs
-abbrev pub snapshot_tells : ℕ → Option Reading → Option Snapshot → List ℕ
-snapshot_tells channel (Some reading) (Some snapshot) = if needs reading channel then snapshot.ts ∷ [] else []
-snapshot_tells channel reading snapshot = []
+abbrev pub snapshot_tells : ℕ → Option Snapshot → Option Reading → List ℕ
+snapshot_tells channel None reading = []
+snapshot_tells channel (Some snapshot) None = []
+snapshot_tells channel (Some snapshot) (Some reading) = if needs reading channel then snapshot.ts ∷ [] else []
 
 abbrev pub late_tells : ℕ → Option Late → List ℕ
 late_tells channel None = []
@@ -173,7 +174,7 @@ late_tells channel (Some late) = if nat_eq late.channel channel then late.tick �
 -- the ticks of a channel that an answer tells its caller
 abbrev pub ticks_told : ℕ → ℕ → Asked → Answer → List ℕ
 ticks_told channels channel asked answer =
-    snapshot_tells channel (reading_of channels asked) (snapshot_of answer) ++ late_tells channel (late_of answer) ++ only_at (ticks_of answer) channel
+    snapshot_tells channel (snapshot_of answer) (reading_of channels asked) ++ late_tells channel (late_of answer) ++ only_at (ticks_of answer) channel
 
 abbrev pub all_ticks_told : ℕ → ℕ → List Line → List ℕ
 all_ticks_told channels channel lines = flat_map (λ line. ticks_told channels channel line.asked line.answer) lines

@@ -8,4 +8,4 @@ mod examples;
 mod laws;
 
 pub use crate::examples::clauses_are_needed;
-pub use crate::laws::runs_are_legal;
+pub use crate::laws::{phases_are_legal, runs_are_legal};

@@ -29,6 +29,7 @@ use Rattle.manu_serve.specs.Answerings.{asked_in, IsLegalFrom, IsAnswered, Adds,
 pub refused_serves : (start : Start) (plain : Plain) (reason : Reason) → plain.tick < plain.clock → Serves start plain (Bad reason) (answers.Refused reason) plain
 refused_serves start plain reason reached = record {
   alone = tt;
+  plain = tt;
   later = omega arith;
   rising = tt;
   drawn_above = tt;
@@ -36,7 +37,6 @@ refused_serves start plain reason reached = record {
   log = sym (append-nil plain.log);
   mine = refl;
   tick = omega arith;
-  met = λ met h. h;
   told = λ channel. tt;
   reached = reached;
   kind = tt;
