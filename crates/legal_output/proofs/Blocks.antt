@@ -1,7 +1,7 @@
 -- Lines whose numbers are from a clock on, behind lines whose numbers are below it: what was legal stays so.
 use Rattle.std.proofs.Common.{◌≡◌, ℕ, Bool, false, ◌+◌, ◌<◌, ◌≤◌, List, [], ◌∷◌, ◌++◌, map, zero, suc, refl, sym, ap, subst, ◌∙◌, append_assoc, arith}
-use Rattle.std.specs.Prelude.{Option, Some, None, IfSome, nat_le, nat_lt}
-use Rattle.std.specs.List.{AllByRecursion as Each, filter, flat_map}
+use Rattle.std.specs.Prelude.{Option, Some, None, IfSome, nat_eq, nat_le, nat_lt}
+use Rattle.std.specs.List.{AllByRecursion as Each, filter, flat_map, zip}
 use Rattle.std.specs.FinMap as fin
 use Rattle.std.proofs.lemmas.Bool.{lt-leb, le-ltb}
 use Rattle.std.proofs.lemmas.List.{append-nil}
@@ -10,13 +10,14 @@ use Rattle.std.proofs.lemmas.Grind.{flat_map-append}
 use Rattle.hybrid_time.specs.declared.times.Timestamp.{Timestamp}
 use Rattle.log_model.specs.declared.logs.Write.{Write}
 use Rattle.log_model.specs.declared.logs.Entry.{Entry}
-use Rattle.log_model.specs.Logs.{IsFrom, live}
+use Rattle.log_model.specs.Logs.{IsFrom, key_of, live}
 use Rattle.log_model.proofs.LogLaws.{each-append, each_implied, filter-none, live-more}
+use Rattle.answer_lines.specs.declared.answers.Wrote.{Wrote}
 use Rattle.answer_lines.specs.declared.answers.MeetReply.{MeetReply}
 use Rattle.answer_lines.specs.declared.answers.Answer.{Answer}
 use Rattle.answer_lines.specs.declared.answers.Answer.TheVariants as answers
-use Rattle.legal_output.specs.Lines.{Asked, Line, Start, changes_of, written_of, seals_of, ended_of, drawn, stamps, IsOfKind}
-use Rattle.legal_output.specs.Printed.{Event, Tail, ordered, only_at, entries_of, events_of, write_event, seal_event, walk, printed_log, printed_events, printed_tail, tail_before, past_of, all_drawn, phase_failures}
+use Rattle.legal_output.specs.Lines.{Asked, Line, Start, channel_of, changes_of, written_of, seals_of, ended_of, drawn, stamps, IsOfKind}
+use Rattle.legal_output.specs.Printed.{Event, Tail, ordered, only_at, entries_of, events_of, event_if, write_event, seal_event, walk, printed_log, printed_events, printed_tail, tail_before, past_of, all_drawn, phase_failures}
 use Rattle.legal_output.specs.Legal.{AtEach, RefusedRightly, Replied, HasContent, HasLevel, InOrder, PendingRightly, Differ, HasNumbers, Counts, CountsLive, AreTails, CountsRightly}
 use Rattle.legal_output.proofs.Grown.{each-flat_map, differ-append}
 use Rattle.legal_output.proofs.Placed.{entries_hold, drawn_shown, ordered-blocks, ordered_each}
@@ -51,10 +52,16 @@ seals_hold Q channel [] all = tt
 seals_hold Q zero (seal ∷ seals) all = (all.0, tt)
 seals_hold Q (suc channel) (seal ∷ seals) all = seals_hold Q channel seals all.1
 
+event_holds : (Q : ℕ → Type 0) (ts : ℕ) (changes : List (Write × Wrote)) → Q ts → Each (λ (e : Event). Q e.ts) (event_if ts changes)
+event_holds Q ts [] here = tt
+event_holds Q ts (change ∷ changes) here = (here, tt)
+
 events_hold : (Q : ℕ → Type 0) (channels channel : ℕ) (changes : List Write) (answer : Answer) → Each Q (drawn answer)
     → Each (λ (e : Event). Q e.ts) (write_event channels channel changes (written_of answer) ++ map seal_event (only_at (seals_of answer) channel))
 events_hold Q channels channel changes answers.Created all = tt
-events_hold Q channels channel changes (answers.Wrote reply) all = (all.0, tt)
+events_hold Q channels channel changes (answers.Wrote reply) all =
+    each-append (λ (e : Event). Q e.ts) (write_event channels channel changes (written_of (answers.Wrote reply))) []
+    (event_holds Q reply.ts.0 (filter (λ change. nat_eq (channel_of channels (key_of change.0)) channel) (zip changes (reply.what ∷ []))) all.0) tt
 events_hold Q channels channel changes (answers.Hits now guarantee ts hits) all = tt
 events_hold Q channels channel changes (answers.Found now guarantee ts row) all = tt
 events_hold Q channels channel changes (answers.Pending now guarantee late tick) all = tt

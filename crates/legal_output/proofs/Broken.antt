@@ -112,7 +112,7 @@ legal vector = record {
   writes = ((ap (told_of (Insert (row_seven vector))) (sym (nothing_live (row_seven vector))), tt), (tt, (tt, (tt, (tt, (tt, (tt, (tt, (tt, tt)))))))));
   content = (tt, (tt, (sym (scan_one vector), (tt, (sym (get_one vector), (tt, (tt, (tt, (tt, tt)))))))));
   levels = (tt, (tt, (record { guarantee = refl; fresh = record { guaranteed = lit≤ tt; known = (0, lit< tt, lit≤ tt) } }, (tt, (record { guarantee = refl; fresh = record { guaranteed = lit≤ tt; known = lit≤ tt } }, (record { guarantee = refl; fresh = tt }, (tt, (tt, (tt, tt)))))))));
-  order = (record { rising = (tt, tt); met = (lit< tt, tt); told = (lit< tt, tt) }, (record { rising = (tt, tt); met = (lit< tt, tt); told = (lit< tt, tt) }, (record { rising = (tt, tt); met = (lit< tt, tt); told = (lit< tt, tt) }, (record { rising = tt; met = tt; told = tt }, (record { rising = (tt, tt); met = (lit< tt, tt); told = (lit< tt, tt) }, (record { rising = (tt, tt); met = (lit< tt, tt); told = (lit< tt, tt) }, (record { rising = (tt, tt); met = (lit< tt, tt); told = (lit< tt, tt) }, (record { rising = (tt, tt); met = (lit< tt, tt); told = (lit< tt, tt) }, (record { rising = (tt, tt); met = (lit< tt, tt); told = (lit< tt, tt) }, tt)))))))));
+  order = (record { rising = (tt, tt); after_meet = (lit< tt, tt); after_caller = (lit< tt, tt) }, (record { rising = (tt, tt); after_meet = (lit< tt, tt); after_caller = (lit< tt, tt) }, (record { rising = (tt, tt); after_meet = (lit< tt, tt); after_caller = (lit< tt, tt) }, (record { rising = tt; after_meet = tt; after_caller = tt }, (record { rising = (tt, tt); after_meet = (lit< tt, tt); after_caller = (lit< tt, tt) }, (record { rising = (tt, tt); after_meet = (lit< tt, tt); after_caller = (lit< tt, tt) }, (record { rising = (tt, tt); after_meet = (lit< tt, tt); after_caller = (lit< tt, tt) }, (record { rising = (tt, tt); after_meet = (lit< tt, tt); after_caller = (lit< tt, tt) }, (record { rising = (tt, tt); after_meet = (lit< tt, tt); after_caller = (lit< tt, tt) }, tt)))))))));
   pending = (tt, (tt, (tt, (tt, (tt, (record { alone = refl; needed = refl; known = lit≤ tt; below = lit< tt }, (tt, (tt, (tt, tt)))))))));
   meets = (record { sealed = tt; met = tt; ended = tt }, (record { sealed = tt; met = tt; ended = tt }, (record { sealed = tt; met = tt; ended = tt }, (record { sealed = tt; met = tt; ended = tt }, (record { sealed = tt; met = tt; ended = tt }, (record { sealed = tt; met = tt; ended = tt }, (record { sealed = (refl, tt); met = tt; ended = tt }, (record { sealed = tt; met = record { live = sym (one_counted 2 (row_seven vector)); tail = refl; node_live = lit≤ tt; merged = λ e. lit≤ tt; least = lit≤ tt; most = lit≤ tt; waiting = lit≤ tt; failed = lit≤ tt }; ended = tt }, (record { sealed = tt; met = tt; ended = sym (one_counted 2 (row_seven vector)) }, tt)))))))));
 }
@@ -124,7 +124,7 @@ form_others Numbers differs = record { differ = (tt, tt); above = (lit< tt, tt) 
 form_others Writes differs = (tt, (tt, tt))
 form_others Content differs = (tt, (tt, tt))
 form_others Levels differs = (tt, (tt, tt))
-form_others Order differs = (record { rising = tt; met = tt; told = tt }, (record { rising = (tt, tt); met = (lit< tt, tt); told = (lit< tt, tt) }, tt))
+form_others Order differs = (record { rising = tt; after_meet = tt; after_caller = tt }, (record { rising = (tt, tt); after_meet = (lit< tt, tt); after_caller = (lit< tt, tt) }, tt))
 form_others Pending differs = (tt, (tt, tt))
 form_others Meets differs = (record { sealed = tt; met = tt; ended = tt }, (record { sealed = tt; met = tt; ended = sym none_counted }, tt))
 
@@ -138,7 +138,7 @@ refusals_others Numbers differs = record { differ = (tt, tt); above = (lit< tt, 
 refusals_others Writes differs = (tt, (tt, tt))
 refusals_others Content differs = (tt, (tt, tt))
 refusals_others Levels differs = (tt, (tt, tt))
-refusals_others Order differs = (record { rising = tt; met = tt; told = tt }, (record { rising = (tt, tt); met = (lit< tt, tt); told = (lit< tt, tt) }, tt))
+refusals_others Order differs = (record { rising = tt; after_meet = tt; after_caller = tt }, (record { rising = (tt, tt); after_meet = (lit< tt, tt); after_caller = (lit< tt, tt) }, tt))
 refusals_others Pending differs = (tt, (tt, tt))
 refusals_others Meets differs = (record { sealed = tt; met = tt; ended = tt }, (record { sealed = tt; met = tt; ended = sym none_counted }, tt))
 
@@ -152,7 +152,7 @@ numbers_others Numbers differs = absurd (differs refl)
 numbers_others Writes differs = (tt, (tt, (tt, tt)))
 numbers_others Content differs = (tt, (tt, (tt, tt)))
 numbers_others Levels differs = (tt, (tt, (tt, tt)))
-numbers_others Order differs = (record { rising = (tt, tt); met = (lit< tt, tt); told = (lit< tt, tt) }, (record { rising = (tt, tt); met = (lit< tt, tt); told = (lit< tt, tt) }, (record { rising = (tt, tt); met = (lit< tt, tt); told = (lit< tt, tt) }, tt)))
+numbers_others Order differs = (record { rising = (tt, tt); after_meet = (lit< tt, tt); after_caller = (lit< tt, tt) }, (record { rising = (tt, tt); after_meet = (lit< tt, tt); after_caller = (lit< tt, tt) }, (record { rising = (tt, tt); after_meet = (lit< tt, tt); after_caller = (lit< tt, tt) }, tt)))
 numbers_others Pending differs = (tt, (tt, (tt, tt)))
 numbers_others Meets differs = (record { sealed = tt; met = tt; ended = tt }, (record { sealed = tt; met = tt; ended = tt }, (record { sealed = tt; met = tt; ended = sym none_counted }, tt)))
 
@@ -166,7 +166,7 @@ writes_others vector Numbers differs = record { differ = (((λ e. cc), tt), (tt,
 writes_others vector Writes differs = absurd (differs refl)
 writes_others vector Content differs = (tt, (tt, tt))
 writes_others vector Levels differs = (tt, (tt, tt))
-writes_others vector Order differs = (record { rising = (tt, tt); met = (lit< tt, tt); told = (lit< tt, tt) }, (record { rising = (tt, tt); met = (lit< tt, tt); told = (lit< tt, tt) }, tt))
+writes_others vector Order differs = (record { rising = (tt, tt); after_meet = (lit< tt, tt); after_caller = (lit< tt, tt) }, (record { rising = (tt, tt); after_meet = (lit< tt, tt); after_caller = (lit< tt, tt) }, tt))
 writes_others vector Pending differs = (tt, (tt, tt))
 writes_others vector Meets differs = (record { sealed = tt; met = tt; ended = tt }, (record { sealed = tt; met = tt; ended = sym (one_counted 1 (row_seven vector)) }, tt))
 
@@ -180,7 +180,7 @@ content_others vector Numbers differs = record { differ = (((λ e. cc), tt), (tt
 content_others vector Writes differs = (tt, (tt, tt))
 content_others vector Content differs = absurd (differs refl)
 content_others vector Levels differs = (record { guarantee = refl; fresh = record { guaranteed = lit≤ tt; known = (0, lit< tt, lit≤ tt) } }, (tt, tt))
-content_others vector Order differs = (record { rising = (tt, tt); met = (lit< tt, tt); told = (lit< tt, tt) }, (record { rising = (tt, tt); met = (lit< tt, tt); told = (lit< tt, tt) }, tt))
+content_others vector Order differs = (record { rising = (tt, tt); after_meet = (lit< tt, tt); after_caller = (lit< tt, tt) }, (record { rising = (tt, tt); after_meet = (lit< tt, tt); after_caller = (lit< tt, tt) }, tt))
 content_others vector Pending differs = (tt, (tt, tt))
 content_others vector Meets differs = (record { sealed = tt; met = tt; ended = tt }, (record { sealed = tt; met = tt; ended = sym none_counted }, tt))
 
@@ -194,7 +194,7 @@ row_others vector Numbers differs = record { differ = (((λ e. cc), tt), (tt, tt
 row_others vector Writes differs = (tt, (tt, tt))
 row_others vector Content differs = absurd (differs refl)
 row_others vector Levels differs = (record { guarantee = refl; fresh = record { guaranteed = lit≤ tt; known = lit≤ tt } }, (tt, tt))
-row_others vector Order differs = (record { rising = (tt, tt); met = (lit< tt, tt); told = (lit< tt, tt) }, (record { rising = (tt, tt); met = (lit< tt, tt); told = (lit< tt, tt) }, tt))
+row_others vector Order differs = (record { rising = (tt, tt); after_meet = (lit< tt, tt); after_caller = (lit< tt, tt) }, (record { rising = (tt, tt); after_meet = (lit< tt, tt); after_caller = (lit< tt, tt) }, tt))
 row_others vector Pending differs = (tt, (tt, tt))
 row_others vector Meets differs = (record { sealed = tt; met = tt; ended = tt }, (record { sealed = tt; met = tt; ended = sym none_counted }, tt))
 
@@ -208,7 +208,7 @@ levels_others vector Numbers differs = record { differ = (((λ e. cc), tt), (tt,
 levels_others vector Writes differs = (tt, (tt, tt))
 levels_others vector Content differs = (sym (scan_none vector 2), (tt, tt))
 levels_others vector Levels differs = absurd (differs refl)
-levels_others vector Order differs = (record { rising = (tt, tt); met = (lit< tt, tt); told = (lit< tt, tt) }, (record { rising = (tt, tt); met = (lit< tt, tt); told = (lit< tt, tt) }, tt))
+levels_others vector Order differs = (record { rising = (tt, tt); after_meet = (lit< tt, tt); after_caller = (lit< tt, tt) }, (record { rising = (tt, tt); after_meet = (lit< tt, tt); after_caller = (lit< tt, tt) }, tt))
 levels_others vector Pending differs = (tt, (tt, tt))
 levels_others vector Meets differs = (record { sealed = tt; met = tt; ended = tt }, (record { sealed = tt; met = tt; ended = sym none_counted }, tt))
 
@@ -222,7 +222,7 @@ guaranteed_others vector Numbers differs = record { differ = (((λ e. cc), tt), 
 guaranteed_others vector Writes differs = (tt, (tt, tt))
 guaranteed_others vector Content differs = (sym (scan_none vector 0), (tt, tt))
 guaranteed_others vector Levels differs = absurd (differs refl)
-guaranteed_others vector Order differs = (record { rising = (tt, tt); met = (lit< tt, tt); told = (lit< tt, tt) }, (record { rising = (tt, tt); met = (lit< tt, tt); told = (lit< tt, tt) }, tt))
+guaranteed_others vector Order differs = (record { rising = (tt, tt); after_meet = (lit< tt, tt); after_caller = (lit< tt, tt) }, (record { rising = (tt, tt); after_meet = (lit< tt, tt); after_caller = (lit< tt, tt) }, tt))
 guaranteed_others vector Pending differs = (tt, (tt, tt))
 guaranteed_others vector Meets differs = (record { sealed = tt; met = tt; ended = tt }, (record { sealed = tt; met = tt; ended = sym none_counted }, tt))
 
@@ -236,7 +236,7 @@ known_others vector Numbers differs = record { differ = (((λ e. cc), ((λ e. cc
 known_others vector Writes differs = (tt, (tt, (tt, tt)))
 known_others vector Content differs = (tt, (sym (scan_none vector 0), (tt, tt)))
 known_others vector Levels differs = absurd (differs refl)
-known_others vector Order differs = (record { rising = (tt, tt); met = (lit< tt, tt); told = (lit< tt, tt) }, (record { rising = (tt, tt); met = (lit< tt, tt); told = (lit< tt, tt) }, (record { rising = (tt, tt); met = (lit< tt, tt); told = (lit< tt, tt) }, tt)))
+known_others vector Order differs = (record { rising = (tt, tt); after_meet = (lit< tt, tt); after_caller = (lit< tt, tt) }, (record { rising = (tt, tt); after_meet = (lit< tt, tt); after_caller = (lit< tt, tt) }, (record { rising = (tt, tt); after_meet = (lit< tt, tt); after_caller = (lit< tt, tt) }, tt)))
 known_others vector Pending differs = (tt, (tt, (tt, tt)))
 known_others vector Meets differs = (record { sealed = tt; met = tt; ended = tt }, (record { sealed = tt; met = tt; ended = tt }, (record { sealed = tt; met = tt; ended = sym none_counted }, tt)))
 
@@ -255,7 +255,7 @@ order_others Pending differs = (tt, (tt, (tt, tt)))
 order_others Meets differs = (record { sealed = tt; met = tt; ended = tt }, (record { sealed = tt; met = tt; ended = tt }, (record { sealed = tt; met = tt; ended = sym none_counted }, tt)))
 
 pub order : BreaksJust one_channel falls_back Order
-order = record { broken = λ holds. let later : 2 < 1 = holds.1.0.told.0 in omega arith; others = order_others }
+order = record { broken = λ holds. let later : 2 < 1 = holds.1.0.after_caller.0 in omega arith; others = order_others }
 
 after_meet_others : (other : Clause) → other ≢ Order → Holds one_channel falls_behind_a_meet other
 after_meet_others Form differs = record { numbered = (refl, (refl, (refl, tt))); asked = refl; kinds = (tt, (refl, (tt, tt))) }
@@ -269,7 +269,7 @@ after_meet_others Pending differs = (tt, (tt, (tt, tt)))
 after_meet_others Meets differs = (record { sealed = tt; met = record { live = sym none_counted; tail = refl; node_live = lit≤ tt; merged = λ e. lit≤ tt; least = lit≤ tt; most = lit≤ tt; waiting = lit≤ tt; failed = lit≤ tt }; ended = tt }, (record { sealed = tt; met = tt; ended = tt }, (record { sealed = tt; met = tt; ended = sym none_counted }, tt)))
 
 pub after_meet : BreaksJust one_channel falls_behind_a_meet Order
-after_meet = record { broken = λ holds. let later : 2 < 1 = holds.1.0.met.0 in omega arith; others = after_meet_others }
+after_meet = record { broken = λ holds. let later : 2 < 1 = holds.1.0.after_meet.0 in omega arith; others = after_meet_others }
 
 pending_others : (other : Clause) → other ≢ Pending → Holds one_channel pends_though_it_waits other
 pending_others Form differs = record { numbered = (refl, (refl, tt)); asked = refl; kinds = (tt, (tt, tt)) }
@@ -278,7 +278,7 @@ pending_others Numbers differs = record { differ = (((λ e. cc), tt), (tt, tt));
 pending_others Writes differs = (tt, (tt, tt))
 pending_others Content differs = (tt, (tt, tt))
 pending_others Levels differs = (record { guarantee = refl; fresh = tt }, (tt, tt))
-pending_others Order differs = (record { rising = (tt, tt); met = (lit< tt, tt); told = (lit< tt, tt) }, (record { rising = (tt, tt); met = (lit< tt, tt); told = (lit< tt, tt) }, tt))
+pending_others Order differs = (record { rising = (tt, tt); after_meet = (lit< tt, tt); after_caller = (lit< tt, tt) }, (record { rising = (tt, tt); after_meet = (lit< tt, tt); after_caller = (lit< tt, tt) }, tt))
 pending_others Pending differs = absurd (differs refl)
 pending_others Meets differs = (record { sealed = tt; met = tt; ended = tt }, (record { sealed = tt; met = tt; ended = sym none_counted }, tt))
 
@@ -292,7 +292,7 @@ pending_below_others Numbers differs = record { differ = (((λ e. cc), tt), (tt,
 pending_below_others Writes differs = (tt, (tt, tt))
 pending_below_others Content differs = (tt, (tt, tt))
 pending_below_others Levels differs = (record { guarantee = refl; fresh = tt }, (tt, tt))
-pending_below_others Order differs = (record { rising = (tt, tt); met = (lit< tt, tt); told = (lit< tt, tt) }, (record { rising = (tt, tt); met = (lit< tt, tt); told = (lit< tt, tt) }, tt))
+pending_below_others Order differs = (record { rising = (tt, tt); after_meet = (lit< tt, tt); after_caller = (lit< tt, tt) }, (record { rising = (tt, tt); after_meet = (lit< tt, tt); after_caller = (lit< tt, tt) }, tt))
 pending_below_others Pending differs = absurd (differs refl)
 pending_below_others Meets differs = (record { sealed = tt; met = tt; ended = tt }, (record { sealed = tt; met = tt; ended = sym none_counted }, tt))
 
@@ -306,7 +306,7 @@ sealed_others vector Numbers differs = record { differ = (((λ e. cc), ((λ e. c
 sealed_others vector Writes differs = ((ap (told_of (Insert (row_seven vector))) (sym (nothing_live (row_seven vector))), tt), (tt, (tt, tt)))
 sealed_others vector Content differs = (tt, (tt, (tt, tt)))
 sealed_others vector Levels differs = (tt, (tt, (tt, tt)))
-sealed_others vector Order differs = (record { rising = (tt, tt); met = (lit< tt, tt); told = (lit< tt, tt) }, (record { rising = (tt, tt); met = (lit< tt, tt); told = (lit< tt, tt) }, (record { rising = (tt, tt); met = (lit< tt, tt); told = (lit< tt, tt) }, tt)))
+sealed_others vector Order differs = (record { rising = (tt, tt); after_meet = (lit< tt, tt); after_caller = (lit< tt, tt) }, (record { rising = (tt, tt); after_meet = (lit< tt, tt); after_caller = (lit< tt, tt) }, (record { rising = (tt, tt); after_meet = (lit< tt, tt); after_caller = (lit< tt, tt) }, tt)))
 sealed_others vector Pending differs = (tt, (tt, (tt, tt)))
 sealed_others vector Meets differs = absurd (differs refl)
 
@@ -320,7 +320,7 @@ tail_others vector Numbers differs = record { differ = (((λ e. cc), ((λ e. cc)
 tail_others vector Writes differs = ((ap (told_of (Insert (row_seven vector))) (sym (nothing_live (row_seven vector))), tt), (tt, (tt, tt)))
 tail_others vector Content differs = (tt, (tt, (tt, tt)))
 tail_others vector Levels differs = (tt, (tt, (tt, tt)))
-tail_others vector Order differs = (record { rising = (tt, tt); met = (lit< tt, tt); told = (lit< tt, tt) }, (record { rising = (tt, tt); met = (lit< tt, tt); told = (lit< tt, tt) }, (record { rising = (tt, tt); met = (lit< tt, tt); told = (lit< tt, tt) }, tt)))
+tail_others vector Order differs = (record { rising = (tt, tt); after_meet = (lit< tt, tt); after_caller = (lit< tt, tt) }, (record { rising = (tt, tt); after_meet = (lit< tt, tt); after_caller = (lit< tt, tt) }, (record { rising = (tt, tt); after_meet = (lit< tt, tt); after_caller = (lit< tt, tt) }, tt)))
 tail_others vector Pending differs = (tt, (tt, (tt, tt)))
 tail_others vector Meets differs = absurd (differs refl)
 
@@ -334,7 +334,7 @@ waiting_others vector Numbers differs = record { differ = (((λ e. cc), ((λ e. 
 waiting_others vector Writes differs = ((ap (told_of (Insert (row_seven vector))) (sym (nothing_live (row_seven vector))), tt), (tt, (tt, tt)))
 waiting_others vector Content differs = (tt, (tt, (tt, tt)))
 waiting_others vector Levels differs = (tt, (tt, (tt, tt)))
-waiting_others vector Order differs = (record { rising = (tt, tt); met = (lit< tt, tt); told = (lit< tt, tt) }, (record { rising = (tt, tt); met = (lit< tt, tt); told = (lit< tt, tt) }, (record { rising = (tt, tt); met = (lit< tt, tt); told = (lit< tt, tt) }, tt)))
+waiting_others vector Order differs = (record { rising = (tt, tt); after_meet = (lit< tt, tt); after_caller = (lit< tt, tt) }, (record { rising = (tt, tt); after_meet = (lit< tt, tt); after_caller = (lit< tt, tt) }, (record { rising = (tt, tt); after_meet = (lit< tt, tt); after_caller = (lit< tt, tt) }, tt)))
 waiting_others vector Pending differs = (tt, (tt, (tt, tt)))
 waiting_others vector Meets differs = absurd (differs refl)
 
@@ -348,7 +348,7 @@ meets_others Numbers differs = record { differ = (tt, tt); above = (lit< tt, tt)
 meets_others Writes differs = (tt, tt)
 meets_others Content differs = (tt, tt)
 meets_others Levels differs = (tt, tt)
-meets_others Order differs = (record { rising = (tt, tt); met = (lit< tt, tt); told = (lit< tt, tt) }, tt)
+meets_others Order differs = (record { rising = (tt, tt); after_meet = (lit< tt, tt); after_caller = (lit< tt, tt) }, tt)
 meets_others Pending differs = (tt, tt)
 meets_others Meets differs = absurd (differs refl)
 

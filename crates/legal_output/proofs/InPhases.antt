@@ -21,7 +21,7 @@ use Rattle.request_lines.specs.declared.requests.Request.{Request}
 use Rattle.request_lines.specs.declared.requests.Ask.{Ask}
 use Rattle.request_lines.specs.declared.requests.Ask.TheVariants as asks
 use Rattle.legal_output.specs.Lines.{Asked, Bad, Given, Finish, Line, Start, Reading, channel_of, caller_in, caller_of, changes_of, reading_in, reading_of, written_of, late_of, seals_of, met_of, ended_of, failures_of, drawn, stamps, IsOfKind, IsAnswerTo}
-use Rattle.legal_output.specs.Printed.{Event, Tail, Past, ordered, entries_of, events_of, walk, printed_log, printed_events, printed_tail, tail_before, past_for, past_of, all_drawn, all_stamps, all_ticks_told, ticks_told, lines_of, is_caller, greatest, meet_behind, meet_or, write_behind, write_or, failures_or, phase_failures}
+use Rattle.legal_output.specs.Printed.{Event, Tail, Past, ordered, entries_of, events_of, walk, printed_log, printed_events, printed_tail, tail_before, past_for, past_of, all_drawn, all_stamps, all_ticks_shown, ticks_shown, lines_of, is_caller, greatest, meet_behind, meet_or, write_behind, write_or, failures_or, phase_failures}
 use Rattle.legal_output.specs.Legal.{AtEach, RefusedRightly, told_of, reply, Replied, ShowsContent, HasContent, HasLevel, ReadsAt, Rising, InOrder, IsPending, PendingRightly, Counts, CountsLive, AreTails, CountsRightly}
 use Rattle.legal_output.specs.Phases.{Running, IsWhole, of_key, tail_at, tail_below, RepliedByChannel, ShowsChannels, ContentByChannel, past_in_phase, Called, InPhase, PhaseFacts, MeetFacts, EndFacts}
 use Rattle.legal_output.proofs.Grown.{lines_of_each, lines_of-push, greatest-le, each-flat_map}
@@ -97,11 +97,11 @@ module _ (start : Start) (met written : ℕ) (caller : ℕ) (before pre : List L
         stamp = subst (λ ls. greatest (all_stamps ls) ≤ max met (greatest (all_stamps (lines_of (Some caller) pre)))) (sym (lines_of-append caller before pre))
             (greatest_both (λ line. stamps line.answer) met (lines_of (Some caller) before) (lines_of (Some caller) pre) own);
         write = sym (write_behind-block caller before pre ∙ ap (λ ts. write_behind ts (lines_of (Some caller) pre)) (sym mine));
-        tick = λ channel. max_max met (meet_behind start.m0 (before ++ pre)) (greatest (all_ticks_told start.channels channel (lines_of (Some caller) pre))) same
-            (greatest (all_ticks_told start.channels channel (lines_of (Some caller) (before ++ pre))))
-            (subst (λ ls. greatest (all_ticks_told start.channels channel ls) ≤ max met (greatest (all_ticks_told start.channels channel (lines_of (Some caller) pre)))) (sym (lines_of-append caller before pre))
-            (greatest_both (λ line. ticks_told start.channels channel line.asked line.answer) met (lines_of (Some caller) before) (lines_of (Some caller) pre)
-            (each_implied (λ line. Each (λ n. n ≤ met) (stamps line.answer)) (λ line. Each (λ n. n ≤ met) (ticks_told start.channels channel line.asked line.answer))
+        tick = λ channel. max_max met (meet_behind start.m0 (before ++ pre)) (greatest (all_ticks_shown start.channels channel (lines_of (Some caller) pre))) same
+            (greatest (all_ticks_shown start.channels channel (lines_of (Some caller) (before ++ pre))))
+            (subst (λ ls. greatest (all_ticks_shown start.channels channel ls) ≤ max met (greatest (all_ticks_shown start.channels channel (lines_of (Some caller) pre)))) (sym (lines_of-append caller before pre))
+            (greatest_both (λ line. ticks_shown start.channels channel line.asked line.answer) met (lines_of (Some caller) before) (lines_of (Some caller) pre)
+            (each_implied (λ line. Each (λ n. n ≤ met) (stamps line.answer)) (λ line. Each (λ n. n ≤ met) (ticks_shown start.channels channel line.asked line.answer))
             (λ line all. told_shown (λ n. n ≤ met) start.channels channel line.asked line.answer all) (lines_of (Some caller) before) own)));
       }
 
@@ -197,8 +197,8 @@ no_draws start Finish answer none kind refusal unmet unended = end_draws start a
 order_of_none : (past : Past) (answer : Answer) → drawn answer ≡ [] → InOrder past answer
 order_of_none past answer is = record {
   rising = subst Rising (sym is) tt;
-  met = subst (Each (λ n. past.last_meet < n)) (sym is) tt;
-  told = subst (Each (λ n. past.last_stamp < n)) (sym is) tt;
+  after_meet = subst (Each (λ n. past.last_meet < n)) (sym is) tt;
+  after_caller = subst (Each (λ n. past.last_stamp < n)) (sym is) tt;
 }
 
 -- ---- the answers of a phase by the logs of its channels

@@ -8,7 +8,7 @@ use Rattle.log_model.proofs.LogLaws.{each-append, each_implied}
 use Rattle.answer_lines.specs.declared.answers.Answer.{Answer}
 use Rattle.answer_lines.specs.declared.answers.Answer.TheVariants as answers
 use Rattle.legal_output.specs.Lines.{Asked, Reading, Snapshot, Late, reading_of, needs, stated_of, snapshot_of, late_of, ticks_of, drawn, stamps}
-use Rattle.legal_output.specs.Printed.{Past, only_at, snapshot_tells, late_tells, ticks_told, greatest}
+use Rattle.legal_output.specs.Printed.{Past, only_at, snapshot_shows, late_shows, ticks_shown, greatest}
 use Rattle.legal_output.specs.Legal.{IsGuarantee, CoversKnown, IsFresh, ReadsAt, HasLevel, InOrder, IsPending, PendingRightly}
 
 pub some_implied : {X : Type 0} (P Q : X → Type 0) → ((x : X) → P x → Q x) → (o : Option X) → IfSome o P → IfSome o Q
@@ -57,9 +57,9 @@ above_both a b c n most left right = omega arith
 pub order_within : (past other : Past) (answer : Answer) → IsWithin past other → InOrder other answer → InOrder past answer
 order_within past other answer within order = record {
   rising = order.rising;
-  met = subst (λ m. Each (λ n. m < n) (drawn answer)) (sym within.met) order.met;
-  told = each_both (λ n. other.last_meet < n) (λ n. other.last_stamp < n) (λ n. past.last_stamp < n)
-      (λ n left right. above_both past.last_stamp other.last_meet other.last_stamp n within.stamp left right) (drawn answer) order.met order.told;
+  after_meet = subst (λ m. Each (λ n. m < n) (drawn answer)) (sym within.met) order.after_meet;
+  after_caller = each_both (λ n. other.last_meet < n) (λ n. other.last_stamp < n) (λ n. past.last_stamp < n)
+      (λ n left right. above_both past.last_stamp other.last_meet other.last_stamp n within.stamp left right) (drawn answer) order.after_meet order.after_caller;
 }
 
 -- ---- what is told is shown
@@ -68,16 +68,16 @@ each_if : (Q : ℕ → Type 0) (b : Bool) (n : ℕ) → Q n → Each Q (cond b (
 each_if Q true n here = (here, tt)
 each_if Q false n here = tt
 
-snapshot_shown : (Q : ℕ → Type 0) (channel : ℕ) (snapshot : Snapshot) (reading : Option Reading) → Q snapshot.ts → Each Q (snapshot_tells channel (Some snapshot) reading)
+snapshot_shown : (Q : ℕ → Type 0) (channel : ℕ) (snapshot : Snapshot) (reading : Option Reading) → Q snapshot.ts → Each Q (snapshot_shows channel (Some snapshot) reading)
 snapshot_shown Q channel snapshot None here = tt
 snapshot_shown Q channel snapshot (Some reading) here = each_if Q (needs reading channel) snapshot.ts here
 
-told_snapshot : (Q : ℕ → Type 0) (channel : ℕ) (answer : Answer) (reading : Option Reading) → Each Q (stamps answer) → Each Q (snapshot_tells channel (snapshot_of answer) reading)
+told_snapshot : (Q : ℕ → Type 0) (channel : ℕ) (answer : Answer) (reading : Option Reading) → Each Q (stamps answer) → Each Q (snapshot_shows channel (snapshot_of answer) reading)
 told_snapshot Q channel (answers.Hits now guarantee ts hits) reading all = snapshot_shown Q channel (record { guarantee = guarantee.0; ts = ts.0 }) reading all.1.1.0
 told_snapshot Q channel (answers.Found now guarantee ts row) reading all = snapshot_shown Q channel (record { guarantee = guarantee.0; ts = ts.0 }) reading all.1.1.0
 told_snapshot Q channel answer reading all = tt
 
-told_late : (Q : ℕ → Type 0) (channel : ℕ) (answer : Answer) → Each Q (stamps answer) → Each Q (late_tells channel (late_of answer))
+told_late : (Q : ℕ → Type 0) (channel : ℕ) (answer : Answer) → Each Q (stamps answer) → Each Q (late_shows channel (late_of answer))
 told_late Q channel (answers.Pending now guarantee late tick) all = each_if Q (nat_eq late channel) tick.0 all.1.1.0
 told_late Q channel answer all = tt
 
@@ -90,10 +90,10 @@ told_tick : (Q : ℕ → Type 0) (channel : ℕ) (answer : Answer) → Each Q (s
 told_tick Q channel (answers.Ticked ticks) all = only_each Q channel (ticks_of (answers.Ticked ticks)) all
 told_tick Q channel answer all = tt
 
-pub told_shown : (Q : ℕ → Type 0) (channels channel : ℕ) (asked : Asked) (answer : Answer) → Each Q (stamps answer) → Each Q (ticks_told channels channel asked answer)
+pub told_shown : (Q : ℕ → Type 0) (channels channel : ℕ) (asked : Asked) (answer : Answer) → Each Q (stamps answer) → Each Q (ticks_shown channels channel asked answer)
 told_shown Q channels channel asked answer all =
-    each-append Q (snapshot_tells channel (snapshot_of answer) (reading_of channels asked) ++ late_tells channel (late_of answer)) (only_at (ticks_of answer) channel)
-    (each-append Q (snapshot_tells channel (snapshot_of answer) (reading_of channels asked)) (late_tells channel (late_of answer))
+    each-append Q (snapshot_shows channel (snapshot_of answer) (reading_of channels asked) ++ late_shows channel (late_of answer)) (only_at (ticks_of answer) channel)
+    (each-append Q (snapshot_shows channel (snapshot_of answer) (reading_of channels asked)) (late_shows channel (late_of answer))
     (told_snapshot Q channel answer (reading_of channels asked) all) (told_late Q channel answer all))
     (told_tick Q channel answer all)
 

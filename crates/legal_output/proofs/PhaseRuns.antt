@@ -88,7 +88,7 @@ module _ (start : Start) (old new : Running) (before : List Line) (stand : Stand
         writes = (tt, tt);
         content = (tt, tt);
         levels = (tt, tt);
-        order = (record { rising = (tt, tt); met = (above.0, tt); told = (above.1, tt) }, tt);
+        order = (record { rising = (tt, tt); after_meet = (above.0, tt); after_caller = (above.1, tt) }, tt);
         pending = (tt, tt);
         meets = (counts_meet log whole counts, tt);
       }
@@ -154,7 +154,7 @@ end_at_stands start old before stand number counted from log whole counts =
       writes = (tt, tt);
       content = (tt, tt);
       levels = (tt, tt);
-      order = (record { rising = (tt, tt); met = (above.0, tt); told = (above.1, tt) }, tt);
+      order = (record { rising = (tt, tt); after_meet = (above.0, tt); after_caller = (above.1, tt) }, tt);
       pending = (tt, tt);
       meets = (record {
         sealed = tt;

@@ -13,9 +13,9 @@ use Rattle.answer_lines.specs.declared.answers.Answer.TheVariants as answers
 use Rattle.request_lines.specs.declared.requests.Ask.{Ask}
 use Rattle.request_lines.specs.declared.requests.Ask.TheVariants as asks
 use Rattle.legal_output.specs.Lines.{Asked, Bad, Given, Finish, Line, Start, Reading, caller_in, caller_of, changes_of, reading_in, reading_of, written_of, drawn, stamps, stated_of, snapshot_of, late_of, seals_of, met_of, ended_of, IsOfKind, IsAnswerTo}
-use Rattle.legal_output.specs.Printed.{Past, past_for, past_of, entries_of, printed_log, printed_tail, tail_before, phase_failures, all_drawn, all_stamps, all_ticks_told, lines_of, is_caller, meet_behind, meet_or, write_behind, write_or, ticks_told}
+use Rattle.legal_output.specs.Printed.{Past, past_for, past_of, entries_of, printed_log, printed_tail, tail_before, phase_failures, all_drawn, all_stamps, all_ticks_shown, lines_of, is_caller, meet_behind, meet_or, write_behind, write_or, ticks_shown}
 use Rattle.legal_output.specs.Legal.{AtEach, RefusedRightly, Replied, HasContent, HasLevel, ReadsAt, IsGuarantee, CoversKnown, IsFresh, InOrder, IsPending, PendingRightly, Counts, CountsLive, AreTails, CountsRightly, HasNumbers, Rising, Numbered, IsLegal}
-use Rattle.legal_output.specs.Runs.{Plain, Serves, Run, IsPlain, own, begun}
+use Rattle.legal_output.specs.Runs.{Plain, Serves, Run, IsPlain, past_at, begun}
 use Rattle.legal_output.proofs.Grown.{each-push, flat_map-push, at_each-push, differ-append, differ-rising, lines_of_each, each-flat_map, greatest-le, greatest-lt, meet_behind-push, write_behind-push, lines_of-push}
 use Rattle.legal_output.proofs.Placed.{entries_hold, drawn_shown, printed_log-push}
 use Rattle.legal_output.proofs.Later.{replied-more, content-more, counted-more}
@@ -28,7 +28,7 @@ pub record Stands (start : Start) (plain : Plain) (lines : List Line) : Type 0 w
   pub logged : Each (λ e. e.ts.0 < plain.clock) plain.log
   pub mine : plain.mine ≡ write_behind 0 (lines_of (Some 0) lines)
   pub met : meet_behind start.m0 lines ≤ plain.tick
-  pub told : (channel : ℕ) → Each (λ line. Each (λ n. n ≤ plain.tick) (ticks_told start.channels channel line.asked line.answer)) lines
+  pub told : (channel : ℕ) → Each (λ line. Each (λ n. n ≤ plain.tick) (ticks_shown start.channels channel line.asked line.answer)) lines
   pub stamped : Each (λ line. Each (λ n. n < plain.clock) (stamps line.answer)) lines
   -- the lines are right
   pub kinds : Each (λ line. IsOfKind start line.asked line.answer) lines
@@ -188,9 +188,9 @@ max_most a b c left right = omega arith
 -- a caller knows no more than the last tick
 known_most : (start : Start) (plain : Plain) (lines : List Line) (who : Option ℕ) (channel : ℕ) → Stands start plain lines → (past_for start lines who).known_tick channel ≤ plain.tick
 known_most start plain lines who channel stands =
-    max_most _ _ plain.tick stands.met (greatest-le plain.tick (all_ticks_told start.channels channel (lines_of who lines))
-    (each-flat_map (λ n. n ≤ plain.tick) (λ other. ticks_told start.channels channel other.asked other.answer) (lines_of who lines)
-    (lines_of_each (λ other. Each (λ n. n ≤ plain.tick) (ticks_told start.channels channel other.asked other.answer)) who lines (stands.told channel))))
+    max_most _ _ plain.tick stands.met (greatest-le plain.tick (all_ticks_shown start.channels channel (lines_of who lines))
+    (each-flat_map (λ n. n ≤ plain.tick) (λ other. ticks_shown start.channels channel other.asked other.answer) (lines_of who lines)
+    (lines_of_each (λ other. Each (λ n. n ≤ plain.tick) (ticks_shown start.channels channel other.asked other.answer)) who lines (stands.told channel))))
 
 -- a caller was told of nothing at or above the clock
 told_below : (start : Start) (plain : Plain) (lines : List Line) (who : Option ℕ) → Stands start plain lines → (past_for start lines who).last_stamp < plain.clock
@@ -204,21 +204,21 @@ some_implied P Q f None holds = tt
 some_implied P Q f (Some x) holds = f x holds
 
 covers_past : (channels : ℕ) (plain : Plain) (past : Past) → ((channel : ℕ) → past.known_tick channel ≤ plain.tick) → (channel : Option ℕ) (ts : ℕ)
-    → CoversKnown channels (own plain) channel ts → CoversKnown channels past channel ts
+    → CoversKnown channels (past_at plain) channel ts → CoversKnown channels past channel ts
 covers_past channels plain past known None ts covers = (covers.0, covers.1, le_later (past.known_tick covers.0) plain.tick ts covers.2 (known covers.0))
 covers_past channels plain past known (Some channel) ts covers = le_later (past.known_tick channel) plain.tick ts covers (known channel)
 
 reads_past : (channels : ℕ) (plain : Plain) (past : Past) (answer : Answer) (reading : Reading) → plain.mine ≡ past.last_write → ((channel : ℕ) → past.known_tick channel ≤ plain.tick)
-    → ReadsAt channels (own plain) answer reading → ReadsAt channels past answer reading
+    → ReadsAt channels (past_at plain) answer reading → ReadsAt channels past answer reading
 reads_past channels plain past answer reading mine known reads = record {
-  guarantee = some_implied (IsGuarantee (own plain) reading.level) (IsGuarantee past reading.level) (λ stated is. is ∙ ap (guarantee_of reading.level stated.now) mine) (stated_of answer) reads.guarantee;
-  fresh = some_implied (IsFresh channels (own plain) reading) (IsFresh channels past reading)
+  guarantee = some_implied (IsGuarantee (past_at plain) reading.level) (IsGuarantee past reading.level) (λ stated is. is ∙ ap (guarantee_of reading.level stated.now) mine) (stated_of answer) reads.guarantee;
+  fresh = some_implied (IsFresh channels (past_at plain) reading) (IsFresh channels past reading)
       (λ snapshot fresh. record { guaranteed = fresh.guaranteed; known = covers_past channels plain past known reading.channel snapshot.ts fresh.known }) (snapshot_of answer) reads.fresh;
 }
 
 -- the caller of a request that reads is the one caller there is
 level_ask : (start : Start) (plain : Plain) (lines : List Line) → Stands start plain lines → (caller : ℕ) (ask : Ask) (answer : Answer) → IfSome (caller_in caller ask) (λ c. c ≡ 0)
-    → IfSome (reading_in start.channels ask) (ReadsAt start.channels (own plain) answer)
+    → IfSome (reading_in start.channels ask) (ReadsAt start.channels (past_at plain) answer)
     → IfSome (reading_in start.channels ask) (ReadsAt start.channels (past_for start lines (caller_in caller ask)) answer)
 level_ask start plain lines stands caller (asks.Write write) answer alone has = tt
 level_ask start plain lines stands caller (asks.Search query level wait) answer alone has =
@@ -232,7 +232,7 @@ level_ask start plain lines stands caller asks.Seal answer alone has = tt
 level_ask start plain lines stands caller asks.Meet answer alone has = tt
 
 level_past : (start : Start) (plain : Plain) (lines : List Line) → Stands start plain lines → (asked : Asked) (answer : Answer) → IfSome (caller_of asked) (λ caller. caller ≡ 0)
-    → HasLevel start.channels (own plain) asked answer → HasLevel start.channels (past_for start lines (caller_of asked)) asked answer
+    → HasLevel start.channels (past_at plain) asked answer → HasLevel start.channels (past_for start lines (caller_of asked)) asked answer
 level_past start plain lines stands (Bad reason) answer alone has = tt
 level_past start plain lines stands Finish answer alone has = tt
 level_past start plain lines stands (Given request) answer alone has = level_ask start plain lines stands request.caller request.what answer alone has
@@ -241,8 +241,8 @@ in_order : (start : Start) (plain : Plain) (lines : List Line) (who : Option ℕ
     → InOrder (past_for start lines who) answer
 in_order start plain lines who answer stands rising above = record {
   rising = rising;
-  met = each_implied (λ n. plain.clock ≤ n) (λ n. meet_behind start.m0 lines < n) (λ n high. lt_over (meet_behind start.m0 lines) plain.tick plain.clock n stands.met stands.reached high) (drawn answer) above;
-  told = each_implied (λ n. plain.clock ≤ n) (λ n. (past_for start lines who).last_stamp < n) (λ n high. lt_later (past_for start lines who).last_stamp plain.clock n high (told_below start plain lines who stands)) (drawn answer) above;
+  after_meet = each_implied (λ n. plain.clock ≤ n) (λ n. meet_behind start.m0 lines < n) (λ n high. lt_over (meet_behind start.m0 lines) plain.tick plain.clock n stands.met stands.reached high) (drawn answer) above;
+  after_caller = each_implied (λ n. plain.clock ≤ n) (λ n. (past_for start lines who).last_stamp < n) (λ n high. lt_later (past_for start lines who).last_stamp plain.clock n high (told_below start plain lines who stands)) (drawn answer) above;
 }
 
 each_both : {X : Type 0} (P Q R : X → Type 0) → ((x : X) → P x → Q x → R x) → (xs : List X) → Each P xs → Each Q xs → Each R xs
@@ -276,9 +276,9 @@ one_more start old new lines line stands serves =
       mine = own_write start old new lines line (caller_of line.asked) refl serves.alone stands.mine serves;
       met = subst (λ m. m ≤ new.tick) (sym (meet_behind-push start.m0 lines line ∙ ap (meet_or (meet_behind start.m0 lines)) (plain_meet line.answer serves.plain)))
           (le_later (meet_behind start.m0 lines) old.tick new.tick serves.tick stands.met);
-      told = λ channel. each-push (λ other. Each (λ n. n ≤ new.tick) (ticks_told start.channels channel other.asked other.answer)) lines line
-          (each_implied (λ other. Each (λ n. n ≤ old.tick) (ticks_told start.channels channel other.asked other.answer)) (λ other. Each (λ n. n ≤ new.tick) (ticks_told start.channels channel other.asked other.answer))
-          (λ other all. each_implied (λ n. n ≤ old.tick) (λ n. n ≤ new.tick) (λ n low. le_later n old.tick new.tick serves.tick low) (ticks_told start.channels channel other.asked other.answer) all) lines (stands.told channel))
+      told = λ channel. each-push (λ other. Each (λ n. n ≤ new.tick) (ticks_shown start.channels channel other.asked other.answer)) lines line
+          (each_implied (λ other. Each (λ n. n ≤ old.tick) (ticks_shown start.channels channel other.asked other.answer)) (λ other. Each (λ n. n ≤ new.tick) (ticks_shown start.channels channel other.asked other.answer))
+          (λ other all. each_implied (λ n. n ≤ old.tick) (λ n. n ≤ new.tick) (λ n low. le_later n old.tick new.tick serves.tick low) (ticks_shown start.channels channel other.asked other.answer) all) lines (stands.told channel))
           (serves.told channel);
       stamped = each-push (λ other. Each (λ n. n < new.clock) (stamps other.answer)) lines line
           (each_implied (λ other. Each (λ n. n < old.clock) (stamps other.answer)) (λ other. Each (λ n. n < new.clock) (stamps other.answer))

@@ -111,8 +111,8 @@ Rising (n ∷ ns) = Each (λ m. n < m) ns × Rising ns
 -- number of a meet is above all before it, so this is above all of earlier phases
 pub record InOrder (past : Past) (answer : Answer) : Type 0 where
   pub rising : Rising (drawn answer)
-  pub met : Each (λ n. past.last_meet < n) (drawn answer)
-  pub told : Each (λ n. past.last_stamp < n) (drawn answer)
+  pub after_meet : Each (λ n. past.last_meet < n) (drawn answer)
+  pub after_caller : Each (λ n. past.last_stamp < n) (drawn answer)
 
 -- whether a read needs a channel of a collection
 abbrev pub IsNeeded : ℕ → Option ℕ → ℕ → Type 0

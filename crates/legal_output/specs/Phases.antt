@@ -16,7 +16,7 @@ use Rattle.answer_lines.specs.declared.answers.Answer.TheVariants as answers
 use Rattle.request_lines.specs.declared.requests.Ask.{Ask}
 use Rattle.request_lines.specs.declared.requests.Ask.TheVariants as asks
 use Rattle.legal_output.specs.Lines.{Asked, Given, Finish, Line, Start, channel_of, caller_of, changes_of, written_of, seals_of, met_of, ended_of, drawn, stamps, IsOfKind}
-use Rattle.legal_output.specs.Printed.{Event, Tail, Past, ordered, entries_of, events_of, walk, all_drawn, all_stamps, all_ticks_told, lines_of, greatest, write_behind, phase_failures}
+use Rattle.legal_output.specs.Printed.{Event, Tail, Past, ordered, entries_of, events_of, walk, all_drawn, all_stamps, all_ticks_shown, lines_of, greatest, write_behind, phase_failures}
 use Rattle.legal_output.specs.Legal.{AtEach, RefusedRightly, Differ, Rising, reply, HasLevel, InOrder, PendingRightly, AreTails, Counts, CountsLive}
 
 -- the next number, the number of the last meet, the timestamp of each caller's last write, the log of each channel,
@@ -67,7 +67,7 @@ past_in_phase channels met written earlier = record {
   last_meet = met;
   last_stamp = greatest (all_stamps earlier);
   last_write = write_behind written earlier;
-  known_tick = λ channel. max met (greatest (all_ticks_told channels channel earlier));
+  known_tick = λ channel. max met (greatest (all_ticks_shown channels channel earlier));
 }
 
 -- a line of a caller, behind its other lines in this phase

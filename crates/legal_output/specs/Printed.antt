@@ -1,6 +1,6 @@
 -- What the printed lines tell: the log that they write, the tails of the channels, and what stands behind a line.
-use Rattle.std.specs.Prelude.{ℕ, zero, suc, ◌+◌, Bool, true, false, List, [], ◌∷◌, ◌++◌, map, max, Option, Some, None, if◌then◌else◌, nat_eq, nat_le, nat_lt}
-use Rattle.std.specs.List.{filter, flat_map}
+use Rattle.std.specs.Prelude.{ℕ, zero, suc, ◌+◌, Bool, true, false, List, [], ◌∷◌, ◌++◌, map, max, count_by, Option, Some, None, if◌then◌else◌, nat_eq, nat_le, nat_lt}
+use Rattle.std.specs.List.{filter, flat_map, zip}
 use Rattle.hybrid_time.specs.declared.times.Timestamp.{Timestamp}
 use Rattle.log_model.specs.declared.logs.Write.{Write}
 use Rattle.log_model.specs.declared.logs.Write.TheVariants.{Insert, Upsert, Delete}
@@ -60,22 +60,19 @@ brings (Insert row) Inserted = true
 brings (Upsert row) what = true
 brings write what = false
 
--- the rows that a line's changes brought to a channel
-abbrev pub rows_brought : ℕ → ℕ → List Write → List Wrote → ℕ
-rows_brought channels channel [] replies = 0
-rows_brought channels channel (change ∷ changes) [] = 0
-rows_brought channels channel (change ∷ changes) (what ∷ replies) =
-    (if nat_eq (channel_of channels (key_of change)) channel then (if brings change what then 1 else 0) else 0)
-    + rows_brought channels channel changes replies
+-- one event for all changes of a line to a channel, with the rows that they brought
+abbrev pub event_if : ℕ → List (Write × Wrote) → List Event
+event_if ts [] = []
+event_if ts (pair ∷ pairs) = record { ts = ts; deed = Adds (count_by (λ change. brings change.0 change.1) (pair ∷ pairs)) } ∷ []
 
 abbrev pub write_event : ℕ → ℕ → List Write → Option Written → List Event
 write_event channels channel changes None = []
-write_event channels channel changes (Some written) = record { ts = written.ts; deed = Adds (rows_brought channels channel changes written.replies) } ∷ []
+write_event channels channel changes (Some written) = event_if written.ts (filter (λ change. nat_eq (channel_of channels (key_of change.0)) channel) (zip changes written.replies))
 
 abbrev pub seal_event : Timestamp × ℕ → Event
 seal_event seal = record { ts = seal.0.0; deed = Seals }
 
--- what a line did to a channel; the changes of a line are one event
+-- what a line did to a channel
 abbrev pub events_of : ℕ → ℕ → Line → List Event
 events_of channels channel line =
     write_event channels channel (changes_of line.asked) (written_of line.answer) ++ map seal_event (only_at (seals_of line.answer) channel)
@@ -88,15 +85,18 @@ pub record Tail : Type 0 where
   pub rows : ℕ
   pub segments : ℕ
 
+-- a tail that is full becomes a segment
+abbrev pub add_row : ℕ → Tail → Tail
+add_row seal_rows tail = if nat_le seal_rows (tail.rows + 1) then record { rows = 0; segments = tail.segments + 1 } else record { rows = tail.rows + 1; segments = tail.segments }
+
+abbrev pub add_rows : ℕ → ℕ → Tail → Tail
+add_rows seal_rows zero tail = tail
+add_rows seal_rows (suc more) tail = add_rows seal_rows more (add_row seal_rows tail)
+
+-- a seal makes a segment of a tail that has rows
 abbrev pub seal_tail : ℕ → ℕ → Tail
 seal_tail zero segments = record { rows = 0; segments = segments }
 seal_tail (suc rows) segments = record { rows = 0; segments = segments + 1 }
-
--- rows come one by one; a tail that is full becomes a segment
-abbrev pub add_rows : ℕ → ℕ → Tail → Tail
-add_rows seal_rows zero tail = tail
-add_rows seal_rows (suc more) tail =
-    add_rows seal_rows more (if nat_le seal_rows (tail.rows + 1) then seal_tail (tail.rows + 1) tail.segments else record { rows = tail.rows + 1; segments = tail.segments })
 
 abbrev pub after_deed : ℕ → Tail → Deed → Tail
 after_deed seal_rows tail (Adds rows) = add_rows seal_rows rows tail
@@ -162,22 +162,22 @@ write_behind ts [] = ts
 write_behind ts (line ∷ lines) = write_behind (write_or ts (written_of line.answer)) lines
 
 -- a read whose snapshot was served tells a tick of the channels that it needs
-abbrev pub snapshot_tells : ℕ → Option Snapshot → Option Reading → List ℕ
-snapshot_tells channel None reading = []
-snapshot_tells channel (Some snapshot) None = []
-snapshot_tells channel (Some snapshot) (Some reading) = if needs reading channel then snapshot.ts ∷ [] else []
+abbrev pub snapshot_shows : ℕ → Option Snapshot → Option Reading → List ℕ
+snapshot_shows channel None reading = []
+snapshot_shows channel (Some snapshot) None = []
+snapshot_shows channel (Some snapshot) (Some reading) = if needs reading channel then snapshot.ts ∷ [] else []
 
-abbrev pub late_tells : ℕ → Option Late → List ℕ
-late_tells channel None = []
-late_tells channel (Some late) = if nat_eq late.channel channel then late.tick ∷ [] else []
+abbrev pub late_shows : ℕ → Option Late → List ℕ
+late_shows channel None = []
+late_shows channel (Some late) = if nat_eq late.channel channel then late.tick ∷ [] else []
 
 -- the ticks of a channel that an answer tells its caller
-abbrev pub ticks_told : ℕ → ℕ → Asked → Answer → List ℕ
-ticks_told channels channel asked answer =
-    snapshot_tells channel (snapshot_of answer) (reading_of channels asked) ++ late_tells channel (late_of answer) ++ only_at (ticks_of answer) channel
+abbrev pub ticks_shown : ℕ → ℕ → Asked → Answer → List ℕ
+ticks_shown channels channel asked answer =
+    snapshot_shows channel (snapshot_of answer) (reading_of channels asked) ++ late_shows channel (late_of answer) ++ only_at (ticks_of answer) channel
 
-abbrev pub all_ticks_told : ℕ → ℕ → List Line → List ℕ
-all_ticks_told channels channel lines = flat_map (λ line. ticks_told channels channel line.asked line.answer) lines
+abbrev pub all_ticks_shown : ℕ → ℕ → List Line → List ℕ
+all_ticks_shown channels channel lines = flat_map (λ line. ticks_shown channels channel line.asked line.answer) lines
 
 abbrev pub is_caller : ℕ → Option ℕ → Bool
 is_caller caller None = false
@@ -201,7 +201,7 @@ past_for start earlier caller = record {
   last_meet = meet_behind start.m0 earlier;
   last_stamp = greatest (all_stamps (lines_of caller earlier));
   last_write = write_behind 0 (lines_of caller earlier);
-  known_tick = λ channel. max (meet_behind start.m0 earlier) (greatest (all_ticks_told start.channels channel (lines_of caller earlier)));
+  known_tick = λ channel. max (meet_behind start.m0 earlier) (greatest (all_ticks_shown start.channels channel (lines_of caller earlier)));
 }
 
 abbrev pub past_of : Start → List Line → Line → Past

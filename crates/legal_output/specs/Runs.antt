@@ -5,7 +5,7 @@ use Rattle.log_model.specs.declared.logs.Entry.{Entry}
 use Rattle.answer_lines.specs.declared.answers.Answer.{Answer}
 use Rattle.answer_lines.specs.declared.answers.Answer.TheVariants as answers
 use Rattle.legal_output.specs.Lines.{Asked, Line, Start, caller_of, changes_of, written_of, ended_of, drawn, stamps, IsOfKind}
-use Rattle.legal_output.specs.Printed.{Past, entries_if, write_or, ticks_told}
+use Rattle.legal_output.specs.Printed.{Past, entries_if, write_or, ticks_shown}
 use Rattle.legal_output.specs.Legal.{RefusedRightly, Replied, HasContent, HasLevel, Rising, CountsLive}
 
 -- the next number, the log, the last tick, and the timestamp of the caller's last write
@@ -27,8 +27,8 @@ IsPlain (answers.Met reply) = ⊥
 IsPlain answer = ⊤
 
 -- what a run that has come so far knows of the lines before
-abbrev pub own : Plain → Past
-own plain = record { last_meet = plain.tick; last_stamp = plain.clock; last_write = plain.mine; known_tick = λ channel. plain.tick }
+abbrev pub past_at : Plain → Past
+past_at plain = record { last_meet = plain.tick; last_stamp = plain.clock; last_write = plain.mine; known_tick = λ channel. plain.tick }
 
 pub record Serves (start : Start) (old : Plain) (asked : Asked) (answer : Answer) (new : Plain) : Type 0 where
   pub alone : IfSome (caller_of asked) (λ caller. caller ≡ 0)
@@ -42,14 +42,14 @@ pub record Serves (start : Start) (old : Plain) (asked : Asked) (answer : Answer
   pub log : new.log ≡ old.log ++ entries_if (changes_of asked) (written_of answer)
   pub mine : new.mine ≡ write_or old.mine (written_of answer)
   pub tick : old.tick ≤ new.tick
-  pub told : (channel : ℕ) → Each (λ n. n ≤ new.tick) (ticks_told start.channels channel asked answer)
+  pub told : (channel : ℕ) → Each (λ n. n ≤ new.tick) (ticks_shown start.channels channel asked answer)
   pub reached : new.tick < new.clock
   -- the answer
   pub kind : IsOfKind start asked answer
   pub refusal : RefusedRightly asked answer
   pub replied : Replied new.log asked answer
   pub content : HasContent start.plan new.log asked answer
-  pub level : HasLevel start.channels (own old) asked answer
+  pub level : HasLevel start.channels (past_at old) asked answer
   pub counted : IfSome (ended_of answer) (CountsLive new.log)
 
 -- the lines of a run, one after another
