@@ -118,6 +118,7 @@ fn fields_value(alloc: Global, names: &[Text], fields: &[Field]) -> Result<Value
     }
     Ok(Value::Object(members))
 }
+
 fn row_value(alloc: Global, shown: &Option<Named>) -> Result<Value, AllocError>
     ensures { IfOk result (λ v. view v ≡ row_data shown.now) }
 {

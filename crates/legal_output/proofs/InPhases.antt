@@ -125,16 +125,16 @@ module _ (Q : ℕ → List Line → Line → Type 0) where
   callers_together pre [] all = tt
   callers_together pre (line ∷ rest) all = (
     λ caller is. (subst (λ b. AtEach (Q caller) (lines_of (Some caller) pre) (cond b (line ∷ lines_of (Some caller) rest) (lines_of (Some caller) rest)))
-    (ap (is_caller caller) is ∙ same_caller caller) (all caller)).0,
+        (ap (is_caller caller) is ∙ same_caller caller) (all caller)).0,
     callers_together (pre ++ line ∷ []) rest
-    (λ caller. next_line caller pre (lines_of (Some caller) rest) line (is_caller caller (caller_of line.asked)) refl (all caller)),
+        (λ caller. next_line caller pre (lines_of (Some caller) rest) line (is_caller caller (caller_of line.asked)) refl (all caller)),
   )
 
-at_each_prefix : (R : Line → Type 0) (pre rest : List Line) → Each R pre → Each R rest → AtEach (λ earlier line. Each R earlier) pre rest
+pub at_each_prefix : (R : Line → Type 0) (pre rest : List Line) → Each R pre → Each R rest → AtEach (λ earlier line. Each R earlier) pre rest
 at_each_prefix R pre [] before all = tt
 at_each_prefix R pre (line ∷ rest) before all = (before, at_each_prefix R (pre ++ line ∷ []) rest (each-append R pre (line ∷ []) before (all.0, tt)) all.1)
 
-at_each_two : (P P' R : List Line → Line → Type 0) → ((earlier : List Line) (line : Line) → P earlier line → P' earlier line → R earlier line) → (pre rest : List Line)
+pub at_each_two : (P P' R : List Line → Line → Type 0) → ((earlier : List Line) (line : Line) → P earlier line → P' earlier line → R earlier line) → (pre rest : List Line)
     → AtEach P pre rest → AtEach P' pre rest → AtEach R pre rest
 at_each_two P P' R f pre [] one two = tt
 at_each_two P P' R f pre (line ∷ rest) one two = (f pre line one.0 two.0, at_each_two P P' R f (pre ++ line ∷ []) rest one.1 two.1)
@@ -160,7 +160,7 @@ no_reading channels (Bad reason) none = refl
 no_reading channels (Given request) none = no_reading_ask channels request.caller request.what none
 no_reading channels Finish none = refl
 
-some_of_none : {X : Type 0} (P : X → Type 0) (o : Option X) → o ≡ None → IfSome o P
+pub some_of_none : {X : Type 0} (P : X → Type 0) (o : Option X) → o ≡ None → IfSome o P
 some_of_none P o is = subst (λ x. IfSome x P) (sym is) tt
 
 -- a meet that was answered as one is no line of a phase
@@ -188,7 +188,7 @@ end_draws : (start : Start) (answer : Answer) → IsOfKind start Finish answer �
 end_draws start (answers.End reply) kind unended = cc
 end_draws start answer kind unended = absurd kind
 
-no_draws : (start : Start) (asked : Asked) (answer : Answer) → caller_of asked ≡ None → IsOfKind start asked answer → RefusedRightly asked answer → met_of answer ≡ None → ended_of answer ≡ None
+pub no_draws : (start : Start) (asked : Asked) (answer : Answer) → caller_of asked ≡ None → IsOfKind start asked answer → RefusedRightly asked answer → met_of answer ≡ None → ended_of answer ≡ None
     → drawn answer ≡ []
 no_draws start (Bad reason) answer none kind refusal unmet unended = ap drawn refusal
 no_draws start (Given request) answer none kind refusal unmet unended = ask_draws start request request.what answer none kind refusal unmet

@@ -8,3 +8,4 @@ pub mod Stands
 pub mod Pasts
 pub mod InPhases
 pub mod PhaseRuns
+pub mod Alone

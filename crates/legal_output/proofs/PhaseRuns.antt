@@ -41,7 +41,7 @@ at_rest : (start : Start) (old : Running) (before : List Line) → Stand start o
 at_rest start old before stand ts from = (
   subst (λ m. m < ts) stand.met (lt_lt old.met old.clock ts stand.below from),
   lt_lt (greatest (all_stamps before)) old.clock ts
-  (greatest-lt old.clock (all_stamps before) (some_clock old.met old.clock stand.below) (each-flat_map (λ n. n < old.clock) (λ line. stamps line.answer) before stand.sofar.stamped)) from,
+      (greatest-lt old.clock (all_stamps before) (some_clock old.met old.clock stand.below) (each-flat_map (λ n. n < old.clock) (λ line. stamps line.answer) before stand.sofar.stamped)) from,
 )
 
 -- ---- meets
@@ -156,11 +156,14 @@ end_at_stands start old before stand number counted from log whole counts =
       levels = (tt, tt);
       order = (record { rising = (tt, tt); after_meet = (above.0, tt); after_caller = (above.1, tt) }, tt);
       pending = (tt, tt);
-      meets = (record {
-        sealed = tt;
-        met = tt;
-        ended = counts ∙ ap (λ r. fin.len r) (same_live log (printed_log start (before ++ line ∷ [])) counted.ts.0 (λ key. whole key ∙ sym (ap (of_key key) same ∙ stand.whole key)));
-      }, tt);
+      meets = (
+        record {
+          sealed = tt;
+          met = tt;
+          ended = counts ∙ ap (λ r. fin.len r) (same_live log (printed_log start (before ++ line ∷ [])) counted.ts.0 (λ key. whole key ∙ sym (ap (of_key key) same ∙ stand.whole key)));
+        },
+        tt,
+      );
     })
 
 end_is : (start : Start) (old : Running) (line : Line) (facts : EndFacts start old line) → end_at line.number facts.counted ≡ line
@@ -223,3 +226,19 @@ sofar_legal start clock asks lines sofar numbered asked = record {
   pending = sofar.pending;
   meets = sofar.meets;
 }
+
+-- after each meet the output is legal as one that is stopped there
+pub stopped_legal : (start : Start) (first last : Running) (phases : List Phase) (asks : List Asked) → Begins start first → RunOver start first phases last
+    → Numbered 2 (lines_in phases) → map (λ line. line.asked) (lines_in phases) ≡ asks → IsLegal start asks (lines_in phases)
+stopped_legal start first last phases asks begins run numbered asked =
+    let ran : Stand start last (lines_in phases) × Settled last.met (lines_in phases) = run_stands start first last [] phases (begun_stands start first begins) run in
+    sofar_legal start last.clock asks (lines_in phases) ran.0.sofar numbered asked
+
+-- with a last phase and the end it is legal as a whole
+pub whole_legal : (start : Start) (first met last : Running) (phases : List Phase) (block : List Line) (end : Line) (asks : List Asked)
+    → Begins start first → RunOver start first phases met → PhaseFacts start met last block → EndFacts start last end
+    → Numbered 2 ((lines_in phases ++ block) ++ end ∷ []) → map (λ line. line.asked) ((lines_in phases ++ block) ++ end ∷ []) ≡ asks → IsLegal start asks ((lines_in phases ++ block) ++ end ∷ [])
+whole_legal start first met last phases block end asks begins run facts ends numbered asked =
+    let ran : Stand start met (lines_in phases) × Settled met.met (lines_in phases) = run_stands start first met [] phases (begun_stands start first begins) run in
+    let stands : Stand start last (lines_in phases ++ block) = phase_stands start met last (lines_in phases) ran.0 ran.1 block facts in
+    sofar_legal start (suc ends.counted.ts.0) asks ((lines_in phases ++ block) ++ end ∷ []) (end_stands start last (lines_in phases ++ block) end stands ends) numbered asked

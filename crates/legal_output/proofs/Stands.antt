@@ -106,7 +106,7 @@ unwritten start Finish (answers.Met reply) none kind refusal = refl
 unwritten start Finish (answers.End reply) none kind refusal = refl
 unwritten start Finish (answers.Refused reason) none kind refusal = refl
 
-plain_meet : (answer : Answer) → IsPlain answer → met_of answer ≡ None
+pub plain_meet : (answer : Answer) → IsPlain answer → met_of answer ≡ None
 plain_meet answers.Created plain = refl
 plain_meet (answers.Wrote reply) plain = refl
 plain_meet (answers.Hits now guarantee ts hits) plain = refl
@@ -130,7 +130,7 @@ plain_late (answers.Met reply) plain = absurd plain
 plain_late (answers.End reply) plain = refl
 plain_late (answers.Refused reason) plain = refl
 
-plain_seals : (answer : Answer) → IsPlain answer → seals_of answer ≡ []
+pub plain_seals : (answer : Answer) → IsPlain answer → seals_of answer ≡ []
 plain_seals answers.Created plain = refl
 plain_seals (answers.Wrote reply) plain = refl
 plain_seals (answers.Hits now guarantee ts hits) plain = refl
@@ -150,21 +150,9 @@ some_each P holds None = tt
 some_each P holds (Some x) = holds x
 
 -- none of its lines is pending
-plain_pending : (channels : ℕ) (past : Past) (asked : Asked) (answer : Answer) → IsPlain answer → PendingRightly channels past asked answer
+pub plain_pending : (channels : ℕ) (past : Past) (asked : Asked) (answer : Answer) → IsPlain answer → PendingRightly channels past asked answer
 plain_pending channels past asked answer plain = some_each (λ reading. IfSome (late_of answer) (IsPending channels past reading))
     (λ reading. none_holds (IsPending channels past reading) (late_of answer) (plain_late answer plain)) (reading_of channels asked)
-
--- it counts at the end alone
-plain_counts : (start : Start) (lines earlier : List Line) (answer : Answer) → IsPlain answer → IfSome (ended_of answer) (CountsLive (printed_log start lines)) → CountsRightly start lines earlier answer
-plain_counts start lines earlier answer plain counted = record {
-  sealed = subst (AreTails (tail_before start lines) 0) (sym (plain_seals answer plain)) tt;
-  met = none_holds (λ reply. Counts start (printed_log start lines) (printed_tail start lines reply.ts.0) (phase_failures 0 earlier) reply) (met_of answer) (plain_meet answer plain);
-  ended = counted;
-}
-
-at_each_of : (P : List Line → Line → Type 0) (before lines : List Line) → ((earlier : List Line) → Each (λ line. P earlier line) lines) → AtEach P before lines
-at_each_of P before [] all = tt
-at_each_of P before (line ∷ lines) all = ((all before).0, at_each_of P (before ++ line ∷ []) lines (λ earlier. (all earlier).1))
 
 -- the last write of the one caller there is
 own_write : (start : Start) (old new : Plain) (lines : List Line) (line : Line) (who : Option ℕ) → caller_of line.asked ≡ who
@@ -312,25 +300,6 @@ ran start old new before [] stands run = subst (λ l. Stands start new l) (sym (
 ran start old new before (line ∷ lines) stands run =
     subst (Stands start new) (append_assoc before (line ∷ []) lines)
     (ran start run.0 new (before ++ line ∷ []) lines (one_more start old run.0 before line stands run.1) run.2)
-
-pub is_legal : (start : Start) (plain : Plain) (asks : List Asked) (lines : List Line) → Stands start plain lines → Numbered 2 lines → map (λ line. line.asked) lines ≡ asks
-    → IsLegal start asks lines
-is_legal start plain asks lines stands numbered asked = record {
-  form = record { numbered = numbered; asked = asked; kinds = stands.kinds };
-  refusals = stands.refusals;
-  numbers = stands.numbers;
-  writes = subst (λ l. Each (λ line. Replied l line.asked line.answer) lines) stands.log stands.writes;
-  content = subst (λ l. Each (λ line. HasContent start.plan l line.asked line.answer) lines) stands.log stands.content;
-  levels = stands.levels;
-  order = stands.order;
-  pending = at_each_of (λ earlier line. PendingRightly start.channels (past_of start earlier line) line.asked line.answer) [] lines
-      (λ earlier. each_implied (λ line. IsPlain line.answer) (λ line. PendingRightly start.channels (past_of start earlier line) line.asked line.answer)
-      (λ line plain. plain_pending start.channels (past_of start earlier line) line.asked line.answer plain) lines stands.plain_kinds);
-  meets = at_each_of (λ earlier line. CountsRightly start lines earlier line.answer) [] lines
-      (λ earlier. each_both (λ line. IsPlain line.answer) (λ line. IfSome (ended_of line.answer) (CountsLive (printed_log start lines))) (λ line. CountsRightly start lines earlier line.answer)
-      (λ line plain counted. plain_counts start lines earlier line.answer plain counted) lines stands.plain_kinds
-      (subst (λ l. Each (λ line. IfSome (ended_of line.answer) (CountsLive l)) lines) stands.log stands.meets));
-}
 
 -- a run may be told line by line
 pub run-push : (start : Start) (old mid new : Plain) (lines : List Line) (line : Line) → Run start old lines mid → Serves start mid line.asked line.answer new → Run start old (lines ++ line ∷ []) new

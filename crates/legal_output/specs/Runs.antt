@@ -4,7 +4,7 @@ use Rattle.std.specs.List.{AllByRecursion as Each}
 use Rattle.log_model.specs.declared.logs.Entry.{Entry}
 use Rattle.answer_lines.specs.declared.answers.Answer.{Answer}
 use Rattle.answer_lines.specs.declared.answers.Answer.TheVariants as answers
-use Rattle.legal_output.specs.Lines.{Asked, Line, Start, caller_of, changes_of, written_of, ended_of, drawn, stamps, IsOfKind}
+use Rattle.legal_output.specs.Lines.{Asked, Finish, Line, Start, caller_of, changes_of, written_of, ended_of, drawn, stamps, IsOfKind}
 use Rattle.legal_output.specs.Printed.{Past, entries_if, write_or, ticks_shown}
 use Rattle.legal_output.specs.Legal.{RefusedRightly, Replied, HasContent, HasLevel, Rising, CountsLive}
 
@@ -56,3 +56,7 @@ pub record Serves (start : Start) (old : Plain) (asked : Asked) (answer : Answer
 abbrev pub Run : Start → Plain → List Line → Plain → Type 0
 Run start old [] new = new ≡ old
 Run start old (line ∷ lines) new = (mid : Plain) × Serves start old line.asked line.answer mid × Run start mid lines new
+
+-- the line that answers the end of the input
+abbrev pub end_line : ℕ → Answer → Line
+end_line number answer = record { number = number; asked = Finish; answer = answer }

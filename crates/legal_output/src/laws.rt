@@ -1,19 +1,22 @@
 //! From what was done to what may be printed.
 
-ghost use Rattle.std.specs.Prelude.{◌≡◌, ℕ, ◌<◌, [], ◌∷◌, ◌++◌, List, map};
+ghost use Rattle.std.specs.Prelude.{◌≡◌, ◌≢◌, ℕ, ◌<◌, [], ◌∷◌, ◌++◌, List, map};
 ghost use Rattle.std.specs.List.{AllByRecursion};
-ghost use Rattle.legal_output.specs.Lines.{Asked, Line, Start};
+ghost use Rattle.answer_lines.specs.declared.answers.Answer.{Answer};
+ghost use Rattle.legal_output.specs.Lines.{Asked, Finish, Line, Start};
 ghost use Rattle.legal_output.specs.Legal.{Numbered, IsLegal};
-ghost use Rattle.legal_output.specs.Runs.{Plain, Run, begun};
+ghost use Rattle.legal_output.specs.Runs.{Plain, Run, Serves, begun, end_line};
 ghost use Rattle.legal_output.specs.Phases.{Running, Phase, PhaseFacts, EndFacts, Begins, RunOver, lines_in};
 
-/// A run that serves each line as its account says is legal, where its first number is above all
-/// that was there before. This call does nothing.
+/// A run that serves each line as its account says is a phase, and with its end it is legal, where
+/// its first number is above all that was there before. This call does nothing.
 pub fn runs_are_legal()
-    ensures { (start : Start) (first : ℕ) (last : Plain) (asks : List Asked) (lines : List Line)
+    ensures { (start : Start) (first : ℕ) (last new : Plain) (asks : List Asked) (block : List Line) (number : ℕ) (answer : Answer)
         → AllByRecursion (λ entry. entry.ts.0 < first) start.base → start.m0 < first
-        → Run start (begun start first) lines last
-        → Numbered 2 lines → map (λ line. line.asked) lines ≡ asks → IsLegal start asks lines }
+        → Run start (begun start first) block last → AllByRecursion (λ line. line.asked ≢ Finish) block
+        → Serves start last Finish answer new
+        → Numbered 2 (block ++ end_line number answer ∷ []) → map (λ line. line.asked) (block ++ end_line number answer ∷ []) ≡ asks
+        → IsLegal start asks (block ++ end_line number answer ∷ []) }
 {}
 
 /// A run over phases, each with a meet behind it, is legal where each phase and each meet keep what

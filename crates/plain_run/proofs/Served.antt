@@ -72,7 +72,7 @@ served_write start old now write what log reached logged later grown told kind =
     ∙ below-all old.log now (each_implied (λ e. e.ts.0 < old.clock) (λ e. e.ts.0 < now) (λ e low. lt_later e.ts.0 old.clock now low later) old.log logged) in
     record {
       alone = refl;
-  plain = tt;
+      plain = tt;
       later = le_next old.clock now later;
       rising = (tt, tt);
       drawn_above = (later, tt);
@@ -164,7 +164,7 @@ pub served_tick : (start : Start) (old : Plain) (now : ℕ) (ticks : List Timest
 served_tick start old now ticks reached later one are =
     subst (λ t. Serves start old (alone asks.Tick) (answers.Ticked t) (record { clock = now + 1; log = old.log; tick = now; mine = old.mine })) (sym are) (record {
       alone = refl;
-  plain = tt;
+      plain = tt;
       later = le_next old.clock now later;
       rising = (tt, tt);
       drawn_above = (later, tt);
