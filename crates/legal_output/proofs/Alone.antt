@@ -1,6 +1,6 @@
 -- The run of one caller on a plain log is a phase.
 use Rattle.std.proofs.Common.{◌≡◌, ◌≢◌, ℕ, suc, ◌<◌, ◌≤◌, Bool, true, false, true≢false, cond, List, [], ◌∷◌, ◌++◌, map, refl, sym, ap, subst, ◌∙◌, arith}
-use Rattle.std.specs.Prelude.{Option, Some, None, IfSome, max, nat_eq}
+use Rattle.std.specs.Prelude.{Option, Some, None, max}
 use Rattle.std.specs.List.{AllByRecursion as Each, flat_map}
 use Rattle.std.proofs.lemmas.Bool.{eqb-true}
 use Rattle.std.proofs.lemmas.List.{append-nil}
@@ -11,14 +11,14 @@ use Rattle.answer_lines.specs.declared.answers.Answer.{Answer}
 use Rattle.answer_lines.specs.declared.answers.Answer.TheVariants as answers
 use Rattle.request_lines.specs.declared.requests.Ask.{Ask}
 use Rattle.request_lines.specs.declared.requests.Ask.TheVariants as asks
-use Rattle.legal_output.specs.Lines.{Asked, Bad, Given, Finish, Line, Start, caller_of, seals_of, met_of, ended_of, drawn, stamps, IsOfKind, IsAnswerTo}
-use Rattle.legal_output.specs.Printed.{ordered, entries_of, printed_events, past_for, past_of, all_drawn, all_stamps, lines_of, is_caller, greatest, all_ticks_shown, meet_behind, write_behind, phase_failures}
+use Rattle.legal_output.specs.Lines.{Asked, Bad, Given, Finish, Line, Start, caller_of, met_of, ended_of, drawn, stamps, IsOfKind, IsAnswerTo}
+use Rattle.legal_output.specs.Printed.{ordered, entries_of, printed_events, past_for, past_of, all_stamps, lines_of, is_caller, greatest, all_ticks_shown, meet_behind, write_behind, phase_failures}
 use Rattle.legal_output.specs.Legal.{AtEach, Numbered, RefusedRightly, Replied, ShowsContent, HasContent, HasLevel, InOrder, CountsLive, AreTails, IsLegal}
 use Rattle.legal_output.specs.Runs.{Plain, Serves, Run, IsPlain, begun}
-use Rattle.legal_output.specs.Phases.{Running, tail_below, ShowsChannels, ContentByChannel, past_in_phase, Called, InPhase, PhaseFacts, EndFacts, Begins}
+use Rattle.legal_output.specs.Phases.{IsWithin, Running, tail_below, ShowsChannels, ContentByChannel, past_in_phase, Called, InPhase, PhaseFacts, EndFacts, Begins}
 use Rattle.legal_output.proofs.Grown.{lines_of-push}
-use Rattle.legal_output.proofs.Pasts.{IsWithin, level_within, order_within}
-use Rattle.legal_output.proofs.Blocks.{at_each_both, each_both}
+use Rattle.legal_output.proofs.Pasts.{level_within, order_within}
+use Rattle.legal_output.proofs.Blocks.{at_each_both}
 use Rattle.legal_output.proofs.InPhases.{AreUnmet, meet_behind-block, at_each_prefix, at_each_two}
 use Rattle.legal_output.proofs.PhaseRuns.{whole_legal}
 use Rattle.legal_output.proofs.Stands.{Stands, at_start, ran, plain_meet, plain_seals, plain_pending}

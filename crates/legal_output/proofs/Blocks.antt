@@ -1,6 +1,6 @@
 -- Lines whose numbers are from a clock on, behind lines whose numbers are below it: what was legal stays so.
 use Rattle.std.proofs.Common.{◌≡◌, ℕ, Bool, false, ◌+◌, ◌<◌, ◌≤◌, List, [], ◌∷◌, ◌++◌, map, zero, suc, refl, sym, ap, subst, ◌∙◌, append_assoc, arith}
-use Rattle.std.specs.Prelude.{Option, Some, None, IfSome, nat_eq, nat_le, nat_lt}
+use Rattle.std.specs.Prelude.{nat_eq, nat_le, nat_lt}
 use Rattle.std.specs.List.{AllByRecursion as Each, filter, flat_map, zip}
 use Rattle.std.specs.FinMap as fin
 use Rattle.std.proofs.lemmas.Bool.{lt-leb, le-ltb}
@@ -16,12 +16,12 @@ use Rattle.answer_lines.specs.declared.answers.Wrote.{Wrote}
 use Rattle.answer_lines.specs.declared.answers.MeetReply.{MeetReply}
 use Rattle.answer_lines.specs.declared.answers.Answer.{Answer}
 use Rattle.answer_lines.specs.declared.answers.Answer.TheVariants as answers
-use Rattle.legal_output.specs.Lines.{Asked, Line, Start, channel_of, changes_of, written_of, seals_of, ended_of, drawn, stamps, IsOfKind}
+use Rattle.legal_output.specs.Lines.{Line, Start, channel_of, changes_of, written_of, seals_of, drawn, stamps, IsOfKind}
 use Rattle.legal_output.specs.Printed.{Event, Tail, ordered, only_at, entries_of, events_of, event_if, write_event, seal_event, walk, printed_log, printed_events, printed_tail, tail_before, past_of, all_drawn, phase_failures}
-use Rattle.legal_output.specs.Legal.{AtEach, RefusedRightly, Replied, HasContent, HasLevel, InOrder, PendingRightly, Differ, HasNumbers, Counts, CountsLive, AreTails, CountsRightly}
+use Rattle.legal_output.specs.Legal.{AtEach, RefusedRightly, Replied, HasContent, HasLevel, InOrder, PendingRightly, Differ, HasNumbers, Counts, AreTails, CountsRightly}
 use Rattle.legal_output.proofs.Grown.{each-flat_map, differ-append}
 use Rattle.legal_output.proofs.Placed.{entries_hold, drawn_shown, ordered-blocks, ordered_each}
-use Rattle.legal_output.proofs.Later.{replied-more, content-more, counted-more, above}
+use Rattle.legal_output.proofs.Later.{replied-more, content-more, above}
 
 -- ---- facts of each line
 

@@ -1,5 +1,5 @@
 -- The small outputs are what they say.
-use Rattle.std.proofs.Common.{◌≡◌, ◌≢◌, ℕ, zero, suc, ◌+◌, ◌<◌, ◌≤◌, Bool, true, false, true≢false, cond, List, [], ◌∷◌, map, take, Some, None, refl, sym, ap, ◌∙◌, lit<, lit≤, arith}
+use Rattle.std.proofs.Common.{◌≡◌, ◌≢◌, ℕ, zero, suc, ◌+◌, ◌<◌, ◌≤◌, Bool, false, true≢false, cond, List, [], ◌∷◌, map, take, Some, None, refl, sym, ap, ◌∙◌, lit<, lit≤, arith}
 use Rattle.std.specs.Prelude.{is_some}
 use Rattle.std.specs.Ordering.{int_cmp}
 use Rattle.std.specs.Cmp.{int_cmp_total}
@@ -15,7 +15,7 @@ use Rattle.row_types.proofs.Rising as rising
 use Rattle.hybrid_time.specs.declared.levels.Level.TheVariants.{Eventually}
 use Rattle.log_model.specs.declared.logs.Write.TheVariants.{Insert}
 use Rattle.log_model.specs.declared.logs.Entry.{Entry}
-use Rattle.log_model.specs.Logs.{Rows, rows_of, live}
+use Rattle.log_model.specs.Logs.{Rows, rows_of}
 use Rattle.log_model.specs.Scans.{hit_of, scan}
 use Rattle.log_model.proofs.LogLaws.{rows_of-after}
 use Rattle.answer_lines.specs.declared.answers.Wrote.TheVariants.{Inserted, Exists}

@@ -1,34 +1,29 @@
 -- A phase extends the lines before it.
-use Rattle.std.proofs.Common.{◌≡◌, ℕ, ℤ, ◌+◌, ◌<◌, ◌≤◌, Bool, true, false, cond, List, [], ◌∷◌, ◌++◌, map, refl, sym, ap, subst, ◌∙◌, append_assoc, arith}
-use Rattle.std.specs.Prelude.{Option, Some, None, IfSome, max, nat_eq, nat_le, nat_lt, ⊤}
+use Rattle.std.proofs.Common.{◌≡◌, ℕ, ◌+◌, ◌<◌, ◌≤◌, Bool, true, false, cond, List, [], ◌∷◌, ◌++◌, map, refl, sym, ap, subst, ◌∙◌, append_assoc, arith}
+use Rattle.std.specs.Prelude.{Option, Some, None, IfSome, max, nat_lt, ⊤}
 use Rattle.std.specs.List.{AllByRecursion as Each, AllZip, filter, flat_map}
 use Rattle.std.specs.Ordering.{int_cmp, eq_by_cmp}
-use Rattle.std.specs.FinMap as fin
 use Rattle.std.proofs.Common.{eq-eqb}
 use Rattle.std.proofs.lemmas.List.{append-nil}
 use Rattle.std.proofs.lemmas.List.Elements.{filter-append}
 use Rattle.std.proofs.lemmas.Grind.{flat_map-append}
-use Rattle.hybrid_time.specs.declared.times.Timestamp.{Timestamp}
-use Rattle.log_model.specs.declared.logs.Write.{Write}
 use Rattle.log_model.specs.declared.logs.Entry.{Entry}
-use Rattle.log_model.specs.Logs.{key_of, live}
-use Rattle.log_model.specs.Scans.{scan}
+use Rattle.log_model.specs.Logs.{key_of}
 use Rattle.log_model.proofs.LogLaws.{each-append, each_implied}
-use Rattle.answer_lines.specs.declared.answers.Wrote.{Wrote}
 use Rattle.answer_lines.specs.declared.answers.Answer.{Answer}
 use Rattle.answer_lines.specs.declared.answers.Answer.TheVariants as answers
 use Rattle.request_lines.specs.declared.requests.Request.{Request}
 use Rattle.request_lines.specs.declared.requests.Ask.{Ask}
 use Rattle.request_lines.specs.declared.requests.Ask.TheVariants as asks
-use Rattle.legal_output.specs.Lines.{Asked, Bad, Given, Finish, Line, Start, Reading, channel_of, caller_in, caller_of, changes_of, reading_in, reading_of, written_of, late_of, seals_of, met_of, ended_of, failures_of, drawn, stamps, IsOfKind, IsAnswerTo}
-use Rattle.legal_output.specs.Printed.{Event, Tail, Past, ordered, entries_of, events_of, walk, printed_log, printed_events, printed_tail, tail_before, past_for, past_of, all_drawn, all_stamps, all_ticks_shown, ticks_shown, lines_of, is_caller, greatest, meet_behind, meet_or, write_behind, write_or, failures_or, phase_failures}
-use Rattle.legal_output.specs.Legal.{AtEach, RefusedRightly, told_of, reply, Replied, ShowsContent, HasContent, HasLevel, ReadsAt, Rising, InOrder, IsPending, PendingRightly, Counts, CountsLive, AreTails, CountsRightly}
-use Rattle.legal_output.specs.Phases.{Running, IsWhole, of_key, tail_at, tail_below, RepliedByChannel, ShowsChannels, ContentByChannel, past_in_phase, Called, InPhase, PhaseFacts, MeetFacts, EndFacts}
+use Rattle.legal_output.specs.Lines.{Asked, Bad, Given, Finish, Line, Start, channel_of, caller_in, caller_of, changes_of, reading_in, reading_of, written_of, late_of, seals_of, met_of, ended_of, failures_of, drawn, stamps, IsOfKind, IsAnswerTo}
+use Rattle.legal_output.specs.Printed.{Past, ordered, entries_of, events_of, walk, printed_log, printed_events, printed_tail, tail_before, past_for, past_of, all_stamps, all_ticks_shown, ticks_shown, lines_of, is_caller, greatest, meet_behind, meet_or, write_behind, write_or, failures_or, phase_failures}
+use Rattle.legal_output.specs.Legal.{AtEach, RefusedRightly, told_of, reply, Replied, ShowsContent, HasContent, HasLevel, ReadsAt, Rising, InOrder, IsPending, PendingRightly, Counts, CountsLive, CountsRightly}
+use Rattle.legal_output.specs.Phases.{IsWithin, Running, IsWhole, of_key, tail_below, RepliedByChannel, ShowsChannels, ContentByChannel, past_in_phase, Called, InPhase, PhaseFacts}
 use Rattle.legal_output.proofs.Grown.{lines_of_each, lines_of-push, greatest-le, each-flat_map}
 use Rattle.legal_output.proofs.Later.{zip_implied}
-use Rattle.legal_output.proofs.KeyByKey.{same_row, same_live, same_was_live, same_scan}
-use Rattle.legal_output.proofs.Pasts.{some_implied, IsWithin, level_within, pending_within, order_within, told_shown, each_greatest}
-use Rattle.legal_output.proofs.Blocks.{AreBelow, AreFrom, SoFar, Extends, extended, at_each_both, each_both, tails_more, counts_more, printed_log-blocks, printed_events-blocks}
+use Rattle.legal_output.proofs.KeyByKey.{same_row, same_was_live, same_scan}
+use Rattle.legal_output.proofs.Pasts.{some_implied, level_within, pending_within, order_within, told_shown, each_greatest}
+use Rattle.legal_output.proofs.Blocks.{AreFrom, SoFar, Extends, extended, at_each_both, tails_more, printed_log-blocks, printed_events-blocks}
 
 -- ---- what stands behind two lists of lines
 

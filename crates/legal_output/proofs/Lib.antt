@@ -9,3 +9,4 @@ pub mod Pasts
 pub mod InPhases
 pub mod PhaseRuns
 pub mod Alone
+pub mod Members

@@ -1,14 +1,14 @@
 -- What is right where a caller knows much is right where it knows less.
-use Rattle.std.proofs.Common.{◌≡◌, ℕ, zero, suc, ◌+◌, ◌<◌, ◌≤◌, Bool, true, false, cond, List, [], ◌∷◌, ◌++◌, refl, sym, ap, subst, ◌∙◌, arith}
+use Rattle.std.proofs.Common.{ℕ, zero, suc, ◌<◌, ◌≤◌, Bool, true, false, cond, List, [], ◌∷◌, ◌++◌, sym, ap, subst, ◌∙◌, arith}
 use Rattle.std.specs.Prelude.{Option, Some, None, IfSome, max, nat_eq}
 use Rattle.std.specs.List.{AllByRecursion as Each}
 use Rattle.hybrid_time.specs.Levels.{guarantee_of}
-use Rattle.hybrid_time.specs.declared.times.Timestamp.{Timestamp}
 use Rattle.log_model.proofs.LogLaws.{each-append, each_implied}
 use Rattle.answer_lines.specs.declared.answers.Answer.{Answer}
 use Rattle.answer_lines.specs.declared.answers.Answer.TheVariants as answers
-use Rattle.legal_output.specs.Lines.{Asked, Reading, Snapshot, Late, reading_of, needs, stated_of, snapshot_of, late_of, ticks_of, drawn, stamps}
+use Rattle.legal_output.specs.Lines.{Asked, Reading, Snapshot, reading_of, needs, stated_of, snapshot_of, late_of, ticks_of, drawn, stamps}
 use Rattle.legal_output.specs.Printed.{Past, only_at, snapshot_shows, late_shows, ticks_shown, greatest}
+use Rattle.legal_output.specs.Phases.{IsWithin}
 use Rattle.legal_output.specs.Legal.{IsGuarantee, CoversKnown, IsFresh, ReadsAt, HasLevel, InOrder, IsPending, PendingRightly}
 
 pub some_implied : {X : Type 0} (P Q : X → Type 0) → ((x : X) → P x → Q x) → (o : Option X) → IfSome o P → IfSome o Q
@@ -17,13 +17,6 @@ some_implied P Q f (Some x) holds = f x holds
 
 le_le : (a b c : ℕ) → a ≤ b → b ≤ c → a ≤ c
 le_le a b c low high = omega arith
-
--- of the first past no more is known than of the second, but for what is at or below the last meet
-pub record IsWithin (past other : Past) : Type 0 where
-  pub met : past.last_meet ≡ other.last_meet
-  pub stamp : past.last_stamp ≤ max other.last_meet other.last_stamp
-  pub write : other.last_write ≡ past.last_write
-  pub tick : (channel : ℕ) → past.known_tick channel ≤ other.known_tick channel
 
 covers_within : (channels : ℕ) (past other : Past) → IsWithin past other → (channel : Option ℕ) (ts : ℕ) → CoversKnown channels other channel ts → CoversKnown channels past channel ts
 covers_within channels past other within None ts covers = (covers.0, covers.1, le_le (past.known_tick covers.0) (other.known_tick covers.0) ts (within.tick covers.0) covers.2)

@@ -1,23 +1,22 @@
 -- A meet and the end extend the lines before them, and so do all phases of a run.
-use Rattle.std.proofs.Common.{◌≡◌, ℕ, ℤ, suc, ◌<◌, ◌≤◌, List, [], ◌∷◌, ◌++◌, map, refl, sym, ap, subst, ◌∙◌, append_assoc, arith}
-use Rattle.std.specs.Prelude.{Option, Some, None, nat_le}
+use Rattle.std.proofs.Common.{◌≡◌, ℕ, suc, ◌<◌, ◌≤◌, List, [], ◌∷◌, ◌++◌, map, sym, ap, subst, ◌∙◌, append_assoc, arith}
+use Rattle.std.specs.Prelude.{Some, None, nat_le}
 use Rattle.std.specs.List.{AllByRecursion as Each, filter}
 use Rattle.std.specs.FinMap as fin
 use Rattle.std.proofs.lemmas.List.{append-nil}
 use Rattle.log_model.specs.declared.logs.Entry.{Entry}
-use Rattle.log_model.specs.Logs.{live}
 use Rattle.log_model.proofs.LogLaws.{each-append, each_implied}
 use Rattle.answer_lines.specs.declared.answers.MeetReply.{MeetReply}
 use Rattle.answer_lines.specs.declared.answers.EndReply.{EndReply}
 use Rattle.answer_lines.specs.declared.answers.Answer.TheVariants as answers
 use Rattle.request_lines.specs.declared.requests.Ask.TheVariants as asks
-use Rattle.legal_output.specs.Lines.{Asked, Given, Finish, Line, Start, drawn, stamps}
-use Rattle.legal_output.specs.Printed.{Event, Tail, walk, printed_log, printed_events, printed_tail, all_stamps, lines_of, greatest, meet_behind, write_behind, past_for, phase_failures}
-use Rattle.legal_output.specs.Legal.{Numbered, InOrder, Counts, CountsLive, CountsRightly, IsLegal}
+use Rattle.legal_output.specs.Lines.{Asked, Given, Finish, Line, Start, stamps}
+use Rattle.legal_output.specs.Printed.{Event, walk, printed_log, printed_events, printed_tail, all_stamps, lines_of, greatest, write_behind, past_for, phase_failures}
+use Rattle.legal_output.specs.Legal.{Numbered, Counts, CountsLive, CountsRightly, IsLegal}
 use Rattle.legal_output.specs.Phases.{Running, IsWhole, of_key, tail_at, PhaseFacts, MeetFacts, EndFacts, Begins, Phase, RunOver, lines_in}
 use Rattle.legal_output.proofs.Grown.{each-flat_map, greatest-lt}
 use Rattle.legal_output.proofs.KeyByKey.{same_live}
-use Rattle.legal_output.proofs.Blocks.{AreBelow, AreFrom, SoFar, Extends, extended, counts_more, printed_log-blocks, printed_events-blocks}
+use Rattle.legal_output.proofs.Blocks.{AreFrom, SoFar, Extends, extended, counts_more, printed_log-blocks, printed_events-blocks}
 use Rattle.legal_output.proofs.InPhases.{Stand, Settled, phase_stands, lines_of-append, phase_failures-append, meet_behind-append}
 
 lt_lt : (a b c : ℕ) → a < b → b ≤ c → a < c

@@ -35,7 +35,7 @@ module _ {X : Type 0} (ts_of : X → ℕ) where
   ordered-append clock (item ∷ items) later low high same = ap (place ts_of item) (ordered-append clock items later low.1 high same) ∙ place-append clock item (ordered ts_of items) later low.0 high
 
 module _ {X : Type 0} (ts_of : X → ℕ) (P : X → Type 0) where
-  place_each : (item : X) (items : List X) → P item → Each P items → Each P (place ts_of item items)
+  pub place_each : (item : X) (items : List X) → P item → Each P items → Each P (place ts_of item items)
   place_each item [] here all = (here, tt)
   place_each item (other ∷ others) here all =
       let rest = place_each item others here all.1 in

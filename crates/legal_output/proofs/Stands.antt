@@ -1,9 +1,8 @@
 -- What a run that has come so far knows of the lines behind it, and how one more line keeps it.
-use Rattle.std.proofs.Common.{◌≡◌, ℕ, ◌<◌, ◌≤◌, true, cond, List, [], ◌∷◌, ◌++◌, map, refl, sym, ap, subst, ◌∙◌, append_assoc, arith}
+use Rattle.std.proofs.Common.{◌≡◌, ℕ, ◌<◌, ◌≤◌, true, cond, List, [], ◌∷◌, ◌++◌, refl, sym, ap, subst, ◌∙◌, append_assoc, arith}
 use Rattle.std.specs.Prelude.{Option, Some, None, IfSome, max}
 use Rattle.std.specs.List.{AllByRecursion as Each}
 use Rattle.std.proofs.lemmas.List.{append-nil}
-use Rattle.hybrid_time.specs.declared.levels.Level.{Level}
 use Rattle.hybrid_time.specs.Levels.{guarantee_of}
 use Rattle.log_model.specs.declared.logs.Entry.{Entry}
 use Rattle.log_model.specs.Logs.{IsFrom}
@@ -13,8 +12,8 @@ use Rattle.answer_lines.specs.declared.answers.Answer.TheVariants as answers
 use Rattle.request_lines.specs.declared.requests.Ask.{Ask}
 use Rattle.request_lines.specs.declared.requests.Ask.TheVariants as asks
 use Rattle.legal_output.specs.Lines.{Asked, Bad, Given, Finish, Line, Start, Reading, caller_in, caller_of, changes_of, reading_in, reading_of, written_of, drawn, stamps, stated_of, snapshot_of, late_of, seals_of, met_of, ended_of, IsOfKind, IsAnswerTo}
-use Rattle.legal_output.specs.Printed.{Past, past_for, past_of, entries_of, printed_log, printed_tail, tail_before, phase_failures, all_drawn, all_stamps, all_ticks_shown, lines_of, is_caller, meet_behind, meet_or, write_behind, write_or, ticks_shown}
-use Rattle.legal_output.specs.Legal.{AtEach, RefusedRightly, Replied, HasContent, HasLevel, ReadsAt, IsGuarantee, CoversKnown, IsFresh, InOrder, IsPending, PendingRightly, Counts, CountsLive, AreTails, CountsRightly, HasNumbers, Rising, Numbered, IsLegal}
+use Rattle.legal_output.specs.Printed.{Past, past_for, past_of, entries_of, printed_log, all_drawn, all_stamps, all_ticks_shown, lines_of, is_caller, meet_behind, meet_or, write_behind, write_or, ticks_shown}
+use Rattle.legal_output.specs.Legal.{AtEach, RefusedRightly, Replied, HasContent, HasLevel, ReadsAt, IsGuarantee, CoversKnown, IsFresh, InOrder, IsPending, PendingRightly, CountsLive, HasNumbers, Rising}
 use Rattle.legal_output.specs.Runs.{Plain, Serves, Run, IsPlain, past_at, begun}
 use Rattle.legal_output.proofs.Grown.{each-push, flat_map-push, at_each-push, differ-append, differ-rising, lines_of_each, each-flat_map, greatest-le, greatest-lt, meet_behind-push, write_behind-push, lines_of-push}
 use Rattle.legal_output.proofs.Placed.{entries_hold, drawn_shown, printed_log-push}

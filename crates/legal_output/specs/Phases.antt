@@ -1,11 +1,10 @@
 -- What a phase owes: facts of its own values and of its own lines, from which its output is legal. A phase is what
--- stands between two meets.
-use Rattle.std.specs.Prelude.{◌≡◌, ℕ, ℤ, ◌+◌, ◌<◌, ◌≤◌, List, [], ◌∷◌, ◌++◌, Option, Some, None, IfSome, max, nat_le, nat_lt, ⊤}
+-- stands between two meets. Nothing here need be believed: the law asks it of a run, and says what the lines then are.
+use Rattle.std.specs.Prelude.{◌≡◌, ℕ, ℤ, ◌<◌, ◌≤◌, List, [], ◌∷◌, ◌++◌, Some, None, IfSome, max, nat_le, nat_lt, ⊤}
 use Rattle.std.specs.Option.{option_map}
 use Rattle.std.specs.Ordering.{int_cmp, eq_by_cmp}
 use Rattle.std.specs.List.{AllByRecursion as Each, AllZip, filter, flat_map}
 use Rattle.std.specs.FinMap as fin
-use Rattle.log_model.specs.declared.logs.Write.{Write}
 use Rattle.log_model.specs.declared.logs.Entry.{Entry}
 use Rattle.log_model.specs.Logs.{key_of, live}
 use Rattle.log_model.specs.Scans.{scan}
@@ -15,9 +14,9 @@ use Rattle.answer_lines.specs.declared.answers.Answer.{Answer}
 use Rattle.answer_lines.specs.declared.answers.Answer.TheVariants as answers
 use Rattle.request_lines.specs.declared.requests.Ask.{Ask}
 use Rattle.request_lines.specs.declared.requests.Ask.TheVariants as asks
-use Rattle.legal_output.specs.Lines.{Asked, Given, Finish, Line, Start, channel_of, caller_of, changes_of, written_of, seals_of, met_of, ended_of, drawn, stamps, IsOfKind}
+use Rattle.legal_output.specs.Lines.{Asked, Given, Finish, Line, Start, channel_of, changes_of, written_of, seals_of, met_of, ended_of, drawn, stamps, IsOfKind}
 use Rattle.legal_output.specs.Printed.{Event, Tail, Past, ordered, entries_of, events_of, walk, all_drawn, all_stamps, all_ticks_shown, lines_of, greatest, write_behind, phase_failures}
-use Rattle.legal_output.specs.Legal.{AtEach, RefusedRightly, Differ, Rising, reply, HasLevel, InOrder, PendingRightly, AreTails, Counts, CountsLive}
+use Rattle.legal_output.specs.Legal.{AtEach, RefusedRightly, Differ, reply, HasLevel, InOrder, PendingRightly, AreTails, Counts, CountsLive}
 
 -- the next number, the number of the last meet, the timestamp of each caller's last write, the log of each channel,
 -- what happened to its tail, and the failures of the phase so far
@@ -69,6 +68,13 @@ past_in_phase channels met written earlier = record {
   last_write = write_behind written earlier;
   known_tick = λ channel. max met (greatest (all_ticks_shown channels channel earlier));
 }
+
+-- of the first past no more is known than of the second, but for what is at or below the last meet
+pub record IsWithin (past other : Past) : Type 0 where
+  pub met : past.last_meet ≡ other.last_meet
+  pub stamp : past.last_stamp ≤ max other.last_meet other.last_stamp
+  pub write : other.last_write ≡ past.last_write
+  pub tick : (channel : ℕ) → past.known_tick channel ≤ other.known_tick channel
 
 -- a line of a caller, behind its other lines in this phase
 pub record Called (channels met written : ℕ) (earlier : List Line) (line : Line) : Type 0 where

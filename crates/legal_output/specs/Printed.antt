@@ -3,7 +3,7 @@ use Rattle.std.specs.Prelude.{ℕ, zero, suc, ◌+◌, Bool, true, false, List, 
 use Rattle.std.specs.List.{filter, flat_map, zip}
 use Rattle.hybrid_time.specs.declared.times.Timestamp.{Timestamp}
 use Rattle.log_model.specs.declared.logs.Write.{Write}
-use Rattle.log_model.specs.declared.logs.Write.TheVariants.{Insert, Upsert, Delete}
+use Rattle.log_model.specs.declared.logs.Write.TheVariants.{Insert, Upsert}
 use Rattle.log_model.specs.declared.logs.Entry.{Entry}
 use Rattle.log_model.specs.Logs.{key_of}
 use Rattle.answer_lines.specs.declared.answers.Wrote.{Wrote}

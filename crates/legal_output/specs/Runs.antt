@@ -1,4 +1,5 @@
--- The account of a run on a plain log by one caller: what serving each line owes.
+-- The account of a run on a plain log by one caller: what serving each line owes. Nothing here need be believed: the
+-- law asks it of a run, and says what the lines then are.
 use Rattle.std.specs.Prelude.{◌≡◌, ℕ, ◌<◌, ◌≤◌, List, [], ◌∷◌, ◌++◌, IfSome, ⊤}
 use Rattle.std.specs.List.{AllByRecursion as Each}
 use Rattle.log_model.specs.declared.logs.Entry.{Entry}
