@@ -14,7 +14,7 @@ ghost use Rattle.legal_output.specs.Outputs.{start_of};
 ghost use Rattle.legal_output.specs.Runs.{Serves, begun};
 
 use crate::kept::Kept;
-use answer_lines::{Answer, MeetReply, WriteReply, Wrote};
+use answer_lines::{Answer, EndReply, WriteReply, Wrote};
 use coarse_lists::Collection;
 use hybrid_time::{Level, Timestamp, guarantee};
 use log_model::{Entry, Plan, Query, Write};
@@ -80,12 +80,14 @@ impl PlainRun {
                 wait: _,
             } => self.search(alloc, collection, now, &query, level),
             Ask::Tick => self.tick_all(alloc, collection, now),
+            // No request that fits asks one of these yet.
+            Ask::Get { .. } | Ask::Seal | Ask::Meet => unreachable!(),
         }
     }
 
     /// Ends the run: counts the keys that are live behind all writes. Draws one number, at or above
     /// the moment's first timestamp; takes no memory.
-    pub fn end(&mut self, moment: u64) -> MeetReply
+    pub fn end(&mut self, moment: u64) -> EndReply
         requires room { (plain_of self.old).clock + 3 < 2 ^ 64 }
         ensures serves { (start : Start) → Serves start (plain_of self.old) Finish (answers.End result) (plain_of self.new) }
         ensures moment { of_moment moment ≤ result.ts.0 }
@@ -94,7 +96,7 @@ impl PlainRun {
         let live = self.kept.live();
         self.clock = last + 1;
         self.tick = last;
-        MeetReply {
+        EndReply {
             ts: Timestamp(last),
             live,
         }

@@ -140,6 +140,10 @@ abbrev pub FitsAsk : Collection → Ask → Type 0
 FitsAsk collection (asks.Write write) = FitsWrite collection write
 FitsAsk collection (asks.Search query level wait) = FitsQuery collection query
 FitsAsk collection asks.Tick = Unit {0}
+-- no line is read as one of these yet
+FitsAsk collection (asks.Get key level wait) = ⊥
+FitsAsk collection asks.Seal = ⊥
+FitsAsk collection asks.Meet = ⊥
 
 abbrev pub Fits : Collection → Request → Type 0
 Fits collection request = FitsAsk collection request.what
