@@ -10,10 +10,7 @@ use Rattle.request_lines.specs.Headers.{header_of}
 use Rattle.input_lines.specs.Lines.{lines_of, first_line, other_lines, behind_first}
 use Rattle.request_lines.specs.declared.requests.Request.{Request}
 use Rattle.request_lines.specs.declared.requests.Ask.{Ask}
-use Rattle.request_lines.specs.Json.{line_of}
-use Rattle.request_lines.specs.Json.{Line as Json}
-use Rattle.request_lines.specs.Headers.{is_header, collection_in}
-use Rattle.request_lines.specs.Requests.{request_of, refused_or, holds, reasons, operation_in, request_in}
+use Rattle.request_lines.specs.Requests.{request_of}
 use Rattle.log_model.proofs.LogLaws.{each-append, each_implied}
 use Rattle.legal_output.specs.Lines.{Asked, Bad, Finish, Line, Start, drawn}
 use Rattle.legal_output.specs.Printed.{all_drawn}
@@ -187,29 +184,3 @@ of_moment-le a b h = omega arith
 
 pub drawn_later : (a b : ℕ) (ns : List ℕ) → a ≤ b → Each (λ n. of_moment b ≤ n) ns → Each (λ n. of_moment a ≤ n) ns
 drawn_later a b ns h = each_implied (λ n. of_moment b ≤ n) (λ n. of_moment a ≤ n) (λ n k. omega (arith, of_moment-le a b h, k)) ns
-
--- ---- what a line that is read is known to be
-
-abbrev caller_or : Result Request Reason → ℕ
-caller_or (Ok request) = request.caller
-caller_or (Err reason) = 0
-
-caller_of_value : (o : Option Reason) (value request : Request) → value.caller ≡ 0 → refused_or o value ≡ Ok request → request.caller ≡ 0
-caller_of_value (Some reason) value request alone e = cc
-caller_of_value None value request alone e = sym (ap caller_or e) ∙ alone
-
-pub caller_alone : (collection : Collection) (bytes : List ℕ) (request : Request) → request_of collection bytes ≡ Ok request → request.caller ≡ 0
-caller_alone collection bytes request =
-    caller_of_value (find (holds collection (operation_in (line_of bytes)) (line_of bytes)) reasons) (request_in collection (line_of bytes) (operation_in (line_of bytes))) request refl
-
--- the channels of a collection that is there
-abbrev channels_or : Option Collection → ℕ
-channels_or None = 1
-channels_or (Some collection) = collection.channels
-
-one_channel_if : (b : Bool) (line : Json) (collection : Collection) → (if b then Some (collection_in line) else None) ≡ Some collection → collection.channels ≡ 1
-one_channel_if true line collection e = sym (ap channels_or e)
-one_channel_if false line collection e = cc
-
-pub one_channel : (bytes : List ℕ) (collection : Collection) → header_of bytes ≡ Some collection → collection.channels ≡ 1
-one_channel bytes collection = one_channel_if (is_header (line_of bytes)) (line_of bytes) collection
