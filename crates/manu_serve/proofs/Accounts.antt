@@ -1,5 +1,5 @@
 -- Answering line by line.
-use Rattle.std.proofs.Common.{◌≡◌, ◌≢◌, ℕ, zero, suc, Bool, true, false, ◌&&◌, if◌then◌else◌, codes, Option, None, find, Result, Ok, Err, ◌+◌, ◌*◌, ◌<◌, ◌≤◌, min, List, [], ◌∷◌, ◌++◌, map, length, refl, sym, ap, ◌∙◌, subst, arith, Some, add-zero, append-nil, append_assoc, length-append, ◌^◌, ◌-◌}
+use Rattle.std.proofs.Common.{◌≡◌, ◌≢◌, ℕ, suc, Result, Ok, Err, ◌+◌, ◌<◌, ◌≤◌, List, [], ◌∷◌, ◌++◌, map, length, refl, sym, ap, ◌∙◌, subst, arith, Some, add-zero, append-nil, append_assoc, length-append}
 use Rattle.std.specs.List.{AllByRecursion as Each, flat_map}
 use Rattle.hybrid_time.specs.Times.{of_moment}
 use Rattle.coarse_lists.specs.declared.collections.Collection.{Collection}
@@ -9,14 +9,13 @@ use Rattle.answer_lines.specs.Lines.{text_of}
 use Rattle.request_lines.specs.Headers.{header_of}
 use Rattle.input_lines.specs.Lines.{lines_of, first_line, other_lines, behind_first}
 use Rattle.request_lines.specs.declared.requests.Request.{Request}
-use Rattle.request_lines.specs.declared.requests.Ask.{Ask}
 use Rattle.request_lines.specs.Requests.{request_of}
 use Rattle.log_model.proofs.LogLaws.{each-append, each_implied}
 use Rattle.legal_output.specs.Lines.{Asked, Bad, Finish, Line, Start, drawn}
 use Rattle.legal_output.specs.Printed.{all_drawn}
 use Rattle.legal_output.specs.Legal.{Numbered}
 use Rattle.legal_output.specs.Outputs.{asks_of, asked_of, start_of, printed, text_of_line, IsLegalOutput}
-use Rattle.legal_output.specs.Runs.{Plain, Serves, Run, begun, end_line}
+use Rattle.legal_output.specs.Runs.{Plain, Serves, begun, end_line}
 use Rattle.legal_output.proofs.Grown.{flat_map-push}
 use Rattle.legal_output.proofs.Stands.{run-push}
 use Rattle.legal_output.proofs.Alone.{alone_legal}
