@@ -1,5 +1,6 @@
 -- Answering line by line.
 use Rattle.std.proofs.Common.{◌≡◌, ℕ, zero, suc, Bool, true, false, ◌&&◌, if◌then◌else◌, codes, Option, None, option_map, option_and_then, Result, Ok, Err, ◌+◌, ◌*◌, ◌<◌, ◌≤◌, min, List, [], ◌∷◌, ◌++◌, map, length, refl, sym, ap, ◌∙◌, subst, arith, Some, add-zero, append-nil, append_assoc, length-append, ◌^◌, ◌-◌}
+use Rattle.std.specs.Prelude.{find}
 use Rattle.std.specs.List.{AllByRecursion as Each, flat_map}
 use Rattle.hybrid_time.specs.Times.{of_moment}
 use Rattle.coarse_lists.specs.declared.collections.Collection.{Collection}
@@ -9,12 +10,11 @@ use Rattle.answer_lines.specs.declared.answers.Answer.TheVariants as answers
 use Rattle.answer_lines.specs.Lines.{text_of}
 use Rattle.request_lines.specs.Headers.{header_of}
 use Rattle.input_lines.specs.Lines.{lines_of, first_line, other_lines, behind_first}
-use Rattle.serde_json.specs.Data.{Data}
 use Rattle.request_lines.specs.declared.requests.Request.{Request}
 use Rattle.request_lines.specs.declared.requests.Ask.{Ask}
-use Rattle.request_lines.specs.Json.{value_of, integer_at, has_only}
-use Rattle.request_lines.specs.Headers.{header_members, creates, dimension_of, collection_of, collection_in}
-use Rattle.request_lines.specs.Requests.{request_of, and_then, json_in, object_in, operation_in, form_in, ask_in, request_in}
+use Rattle.request_lines.specs.Json.{Line as JsonLine, line_of}
+use Rattle.request_lines.specs.Headers.{is_header, collection_in}
+use Rattle.request_lines.specs.Requests.{refused_or, holds, reasons, operation_in, ask_in, request_of}
 use Rattle.log_model.proofs.LogLaws.{each-append, each_implied}
 use Rattle.legal_output.specs.Lines.{Asked, Bad, Finish, Line, Start, drawn}
 use Rattle.legal_output.specs.Printed.{all_drawn}
@@ -167,41 +167,23 @@ drawn_later a b ns h = each_implied (λ n. of_moment b ≤ n) (λ n. of_moment a
 
 -- ---- what a line that is read is known to be
 
-then_ok : {T U : Type 0} (r : Result T Reason) (next : T → Result U Reason) (P : U → Type 0) → ((x : T) (y : U) → next x ≡ Ok y → P y) → (y : U) → and_then r next ≡ Ok y → P y
-then_ok (Ok x) next P f y e = f x y e
-then_ok (Err reason) next P f y e = cc
-
-same_caller : (ask : Ask) (r : Request) → ◌≡◌ {A = Result Request Reason} (Ok (record { caller = 0; what = ask })) (Ok r) → r.caller ≡ 0
-same_caller ask r e = cc
-
-request_alone : (collection : Collection) (d : Data) (request : Request) → request_in collection d ≡ Ok request → request.caller ≡ 0
-request_alone collection d request =
-    then_ok (and_then (operation_in d) (form_in d)) (λ operation. and_then (ask_in collection d operation) (λ ask. Ok (record { caller = 0; what = ask }))) (λ r. r.caller ≡ 0)
-    (λ operation. then_ok (ask_in collection d operation) (λ ask. Ok (record { caller = 0; what = ask })) (λ r. r.caller ≡ 0) same_caller)
-    request
-
-object_alone : (collection : Collection) (d : Data) (request : Request) → and_then (object_in d) (request_in collection) ≡ Ok request → request.caller ≡ 0
-object_alone collection d request = then_ok (object_in d) (request_in collection) (λ r. r.caller ≡ 0) (request_alone collection) request
+refused_alone : (found : Option Reason) (ask : Ask) (request : Request) → refused_or found (record { caller = 0; what = ask }) ≡ Ok request → request.caller ≡ 0
+refused_alone None ask request e = cc
+refused_alone (Some reason) ask request e = cc
 
 pub caller_alone : (collection : Collection) (bytes : List ℕ) (request : Request) → request_of collection bytes ≡ Ok request → request.caller ≡ 0
-caller_alone collection bytes request = then_ok (json_in bytes) (λ d. and_then (object_in d) (request_in collection)) (λ r. r.caller ≡ 0) (object_alone collection) request
+caller_alone collection bytes request =
+    let line : JsonLine = line_of bytes in
+    refused_alone (find (holds collection (operation_in line) line) reasons) (ask_in collection line (operation_in line)) request
 
 -- the channels of a collection that is there
 abbrev channels_or : Option Collection → ℕ
 channels_or None = 1
 channels_or (Some collection) = collection.channels
 
-one_channel_of : (o : Option ℕ) (collection : Collection) → option_map collection_of o ≡ Some collection → collection.channels ≡ 1
-one_channel_of None collection e = cc
-one_channel_of (Some dim) collection e = sym (ap (λ o. channels_or o) e)
-
-one_channel_if : (b : Bool) (o : Option ℕ) (collection : Collection) → (if b then option_map collection_of o else None) ≡ Some collection → collection.channels ≡ 1
-one_channel_if true o collection e = one_channel_of o collection e
-one_channel_if false o collection e = cc
-
-one_channel_in : (o : Option Data) (collection : Collection) → option_and_then collection_in o ≡ Some collection → collection.channels ≡ 1
-one_channel_in None collection e = cc
-one_channel_in (Some d) collection e = one_channel_if (has_only header_members d && creates d) (option_and_then dimension_of (integer_at (codes "dim") d)) collection e
+one_channel_if : (b : Bool) (made collection : Collection) → made.channels ≡ 1 → (if b then Some made else None) ≡ Some collection → collection.channels ≡ 1
+one_channel_if true made collection one e = sym (ap channels_or e) ∙ one
+one_channel_if false made collection one e = cc
 
 pub one_channel : (bytes : List ℕ) (collection : Collection) → header_of bytes ≡ Some collection → collection.channels ≡ 1
-one_channel bytes collection e = one_channel_in (value_of bytes) collection e
+one_channel bytes collection e = one_channel_if (is_header (line_of bytes)) (collection_in (line_of bytes)) collection refl e
