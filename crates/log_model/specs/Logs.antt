@@ -71,6 +71,10 @@ was_live log ts write = fin.contains_key (rows_of (below log ts)) (key_of write)
 abbrev pub IsAbove : ℕ → List Entry → Type 0
 IsAbove ts log = AllByRecursion (λ entry. ts < entry.ts.0) log
 
+-- all entries are below a timestamp
+abbrev pub IsBelow : ℕ → List Entry → Type 0
+IsBelow ts log = AllByRecursion (λ entry. entry.ts.0 < ts) log
+
 -- no entry is below a timestamp
 abbrev pub IsFrom : ℕ → List Entry → Type 0
 IsFrom ts log = AllByRecursion (λ entry. ts ≤ entry.ts.0) log

@@ -7,4 +7,6 @@ mod cases;
 #[cfg(test)]
 mod endings;
 #[cfg(test)]
+mod examples;
+#[cfg(test)]
 mod runs;
