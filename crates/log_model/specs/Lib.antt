@@ -1,3 +1,4 @@
 pub mod Counts
 pub mod Logs
+pub mod Places
 pub mod Scans

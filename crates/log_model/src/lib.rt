@@ -7,12 +7,16 @@ mod distances;
 mod laws;
 mod logs;
 mod queries;
+mod shared_rows;
 mod slow;
+mod tail_rows;
 
 pub use crate::laws::stability;
 pub use crate::logs::{Entry, Write};
 pub use crate::queries::{Plan, Query};
+pub use crate::shared_rows::SharedRow;
 pub use crate::slow::{apply, live_at, scan_at};
+pub use crate::tail_rows::{TailRow, TailRows};
 
 #[cfg(test)]
 mod tests;
