@@ -1,5 +1,7 @@
 //! Runs that end in another way, and moments that count.
 
+ghost use Rattle.std.specs.declared.option.Option.TheVariants.{None};
+
 use crate::runs::{Given, joined, run, run_from};
 use manu_edge::{Failed, FixedMoments, Moments, Source};
 use manu_serve::Status;
