@@ -4,6 +4,7 @@ use manu_edge::{BytesSink, BytesSource, FixedMoments, MapKeeper, Moments, OpenGa
 use manu_serve::{Ended, Status, serve};
 use row_types::Text;
 use std::alloc::{AllocError, Global};
+use std::process::Abort;
 use std::test::Fail;
 
 /// What a run is given.
@@ -74,4 +75,13 @@ pub fn still(alloc: Global, lines: &[&str]) -> Result<(Status, Vec<u8>), Fail> {
         failing_writes: &[],
     };
     run(alloc, &given, &FixedMoments(10_000))
+}
+
+/// Sees that `run --still` ends well and writes these lines for those.
+pub fn check(rt: &impl Abort, alloc: Global, input: &[&str], output: &[&str]) -> Result<(), Fail> {
+    let (status, written) = still(alloc, input)?;
+    assert_eq!(rt; status, Status::Done);
+    let wanted = joined(alloc, output)?;
+    assert_eq!(rt; written.as_slice(), wanted.as_slice());
+    Ok(())
 }
