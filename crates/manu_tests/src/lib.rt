@@ -8,3 +8,5 @@ mod cases;
 mod endings;
 #[cfg(test)]
 mod runs;
+#[cfg(test)]
+mod sessions;

@@ -1,4 +1,4 @@
-use Rattle.manu_serve.proofs.Accounts.{caller_alone}
+use Rattle.request_lines.proofs.Known.{caller_alone}
 use Rattle.manu_serve.proofs.answering.answer_of.Goals as goal
 
 pub serve-requires-clause-caller : goal.serve-requires-clause-caller
