@@ -10,3 +10,5 @@ mod endings;
 mod examples;
 #[cfg(test)]
 mod runs;
+#[cfg(test)]
+mod sessions;

@@ -4,6 +4,7 @@ use manu_edge::{BytesSink, BytesSource, FixedMoments, MapKeeper, Moments, OpenGa
 use manu_serve::{Ended, Status, serve};
 use row_types::Text;
 use std::alloc::{AllocError, Global};
+use std::process::Abort;
 use std::test::Fail;
 
 /// What a run is given.
@@ -63,15 +64,23 @@ pub fn run_from<S: Source, M: Moments>(
     Ok((status, output))
 }
 
-/// What `run --still` writes for some lines, and how it ends; the clock, which tells 10,000, does not
-/// count.
-pub fn still(alloc: Global, lines: &[&str]) -> Result<(Status, Vec<u8>), Fail> {
-    let input = joined(alloc, lines)?;
+/// What `run --still` writes for an input, and how it ends; the clock, which tells 10,000, does not count.
+pub fn still(alloc: Global, input: &[u8]) -> Result<(Status, Vec<u8>), Fail> {
     let given = Given {
         words: &["run", "--still"],
-        input: &input,
+        input,
         failing_reads: &[],
         failing_writes: &[],
     };
     run(alloc, &given, &FixedMoments(10_000))
+}
+
+/// Sees that `run --still` ends well and writes these lines for those.
+pub fn check(rt: &impl Abort, alloc: Global, input: &[&str], output: &[&str]) -> Result<(), Fail> {
+    let lines = joined(alloc, input)?;
+    let (status, written) = still(alloc, &lines)?;
+    assert_eq!(rt; status, Status::Done);
+    let wanted = joined(alloc, output)?;
+    assert_eq!(rt; written.as_slice(), wanted.as_slice());
+    Ok(())
 }
