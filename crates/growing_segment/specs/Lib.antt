@@ -1,0 +1,5 @@
+pub mod KeyMaps
+pub mod Kept
+pub mod Nodes
+pub mod Tails
+pub mod Trees
