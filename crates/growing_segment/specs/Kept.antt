@@ -1,8 +1,9 @@
 -- What the types keep of their fields; no caller needs it.
-use Rattle.std.specs.Prelude.{◌≡◌, ℕ, ◌-◌, ◌*◌, ◌≤◌, List, ◌++◌, length, vec_capacity}
+use Rattle.std.specs.Prelude.{◌≡◌, ℕ, ◌+◌, ◌*◌, ◌≤◌, ◌<◌, ◌^◌, List, ◌++◌, length}
 use Rattle.std.specs.List.{AllByRecursion}
 use Rattle.log_model.specs.Places.{Placed}
 use Rattle.growing_segment.specs.Tails.{Rows, HasDimension, AreOfTail, width_of, IsColumn, rows_in}
+use Rattle.growing_segment.specs.Trees.{Entries}
 
 -- of the fields of a chunk's block: the words are those of the rows, and there was room for a whole chunk
 pub record IsBlock (dim : ℕ) (rows : List Placed) (words : List ℕ) (row_room word_room : ℕ) : Type 0 where
@@ -27,3 +28,8 @@ pub record KeepsTail (dim : ℕ) (chunks : List Rows) (latest : List Placed) : T
 pub record KeepsShared (dim : ℕ) (chunks : List Rows) (latest : List Placed) : Type 0 where
   pub chunks_fit : AllByRecursion (IsChunkOf dim) chunks
   pub rows_fit : AreOfTail dim (rows_in chunks ++ latest)
+
+-- of the fields of a key index: all its nodes have room among the spare ones
+pub record IsIndex (tree : Entries) (spare capacity : ℕ) : Type 0 where
+  pub room : spare + length tree.list ≤ capacity
+  pub low : tree.height < 2 ^ 63

@@ -8,11 +8,11 @@
 mod blocks;
 mod chunks;
 mod growing;
-//mod key_index;
+mod key_index;
 mod shared_tail;
 mod trees;
 
 pub use crate::chunks::Chunk;
 pub use crate::growing::Growing;
-//pub use crate::key_index::KeyIndex;
+pub use crate::key_index::KeyIndex;
 pub use crate::shared_tail::SharedTail;

@@ -1,0 +1,81 @@
+//! Where each live key's row was put.
+
+ghost use Rattle.std.specs.Prelude.{◌≡◌, ◌+◌, ◌≤◌, IfOk, OnOk};
+ghost use Rattle.std.specs.FinMap as fin;
+
+use crate::trees::{Node, Tree};
+use row_types::{Key, Memory};
+use std::alloc::Global;
+use std::marker::Model;
+use std::mem;
+
+/// A finite map from keys to positions. Contracts see the map, and how many more keys it takes
+/// without memory. Every call costs the logarithm of the number of keys, whatever the keys are.
+#[derive(Drop)]
+pub struct KeyIndex {
+    tree: Tree,
+    spare: Vec<Box<Node>>,
+}
+
+impl Model for KeyIndex {
+    ghost use Rattle.std.specs.Prelude.{◌+◌, ◌≤◌, ◌^◌, length, vec_len, vec_capacity};
+    ghost use Rattle.std.specs.FinMap as fin;
+    ghost use Rattle.growing_segment.specs.KeyMaps.{KeyMap, key_map_code};
+
+    ghost Value = { KeyMap };
+
+    ghost coded = { key_map_code };
+
+    ghost view = { λ i. record { map = fin.from_entries i.tree.list; spare = vec_len i.spare } };
+
+    ghost use Rattle.growing_segment.specs.Kept.{IsIndex};
+
+    ghost invariant = { λ i. IsIndex i.tree (vec_len i.spare) (vec_capacity i.spare) };
+}
+
+impl KeyIndex {
+    /// The map without keys. Want of memory is the only error.
+    pub fn new(alloc: Global) -> Result<KeyIndex, Memory>
+        ensures { IfOk result (λ index. index.map ≡ fin.empty) }
+    {
+        Ok(KeyIndex {
+            tree: Tree::new(),
+            spare: Vec::new(alloc),
+        })
+    }
+
+    /// Room for `n` more keys. Want of memory leaves the map as it was.
+    pub fn reserve(&mut self, alloc: Global, n: u32) -> Result<(), Memory>
+        ensures room { OnOk result (n ≤ self.new.spare) }
+        ensures map { self.new.map ≡ self.old.map }
+        ensures spare { self.old.spare ≤ self.new.spare }
+    {
+        Ok(())
+    }
+
+    /// The position of a key, or None exactly where the map does not have it.
+    pub fn find(&self, key: Key) -> Option<u64>
+        ensures { result ≡ fin.get self.now.map key.0 }
+    {
+        self.tree.find(key)
+    }
+
+    /// Sets the position of a key, which the map may have already; takes no memory.
+    pub fn set(&mut self, key: Key, position: u64)
+        requires { 1 ≤ self.old.spare }
+        ensures map { self.new.map ≡ fin.insert self.old.map key.0 position }
+        ensures spare { self.old.spare ≤ self.new.spare + 1 }
+    {
+        let tree = mem::replace(&mut self.tree, Tree::new());
+        self.tree = tree.with(&mut self.spare, key, position);
+    }
+
+    /// Takes a key out of the map, if the map has it; takes no memory.
+    pub fn clear(&mut self, key: Key)
+        ensures map { self.new.map ≡ fin.remove self.old.map key.0 }
+        ensures spare { self.old.spare ≤ self.new.spare }
+    {
+        let tree = mem::replace(&mut self.tree, Tree::new());
+        self.tree = tree.without(&mut self.spare, key);
+    }
+}
