@@ -1,5 +1,5 @@
 -- What the types keep of their fields; no caller needs it.
-use Rattle.std.specs.Prelude.{◌≡◌, ℕ, ◌+◌, ◌*◌, ◌≤◌, ◌<◌, ◌^◌, List, ◌++◌, length}
+use Rattle.std.specs.Prelude.{◌≡◌, ℕ, ◌+◌, ◌*◌, ◌≤◌, List, ◌++◌, length}
 use Rattle.std.specs.List.{AllByRecursion}
 use Rattle.log_model.specs.Places.{Placed}
 use Rattle.growing_segment.specs.Tails.{Rows, HasDimension, AreOfTail, width_of, IsColumn, rows_in}
@@ -30,6 +30,6 @@ pub record KeepsShared (dim : ℕ) (chunks : List Rows) (latest : List Placed) :
   pub rows_fit : AreOfTail dim (rows_in chunks ++ latest)
 
 -- of the fields of a key index: all its nodes have room among the spare ones
-pub record IsIndex (tree : Entries) (spare capacity : ℕ) : Type 0 where
-  pub room : spare + length tree.list ≤ capacity
-  pub low : tree.height < 2 ^ 63
+pub record IsIndex (keys : ℕ) (tree : Entries) (spare capacity : ℕ) : Type 0 where
+  pub counted : keys ≡ length tree.list
+  pub room : spare + keys ≤ capacity

@@ -1,6 +1,6 @@
 //! Where each live key's row was put.
 
-ghost use Rattle.std.specs.Prelude.{◌≡◌, ◌+◌, ◌≤◌, IfOk, OnOk};
+ghost use Rattle.std.specs.Prelude.{◌≡◌, ◌+◌, ◌≤◌, vec_len, vec_capacity, IfOk, OnOk};
 ghost use Rattle.std.specs.FinMap as fin;
 
 use crate::trees::{Node, Tree};
@@ -13,6 +13,7 @@ use std::mem;
 /// without memory. Every call costs the logarithm of the number of keys, whatever the keys are.
 #[derive(Drop)]
 pub struct KeyIndex {
+    keys: usize,
     tree: Tree,
     spare: Vec<Box<Node>>,
 }
@@ -30,7 +31,7 @@ impl Model for KeyIndex {
 
     ghost use Rattle.growing_segment.specs.Kept.{IsIndex};
 
-    ghost invariant = { λ i. IsIndex i.tree (vec_len i.spare) (vec_capacity i.spare) };
+    ghost invariant = { λ i. IsIndex i.keys i.tree (vec_len i.spare) (vec_capacity i.spare) };
 }
 
 impl KeyIndex {
@@ -39,6 +40,7 @@ impl KeyIndex {
         ensures { IfOk result (λ index. index.map ≡ fin.empty) }
     {
         Ok(KeyIndex {
+            keys: 0,
             tree: Tree::new(),
             spare: Vec::new(alloc),
         })
@@ -50,7 +52,9 @@ impl KeyIndex {
         ensures map { self.new.map ≡ self.old.map }
         ensures spare { self.old.spare ≤ self.new.spare }
     {
-        Ok(())
+        let more = (n as usize).saturating_sub(self.spare.len());
+        self.spare.reserve(self.keys + more)?;
+        add_nodes(alloc, &mut self.spare, more)
     }
 
     /// The position of a key, or None exactly where the map does not have it.
@@ -66,8 +70,10 @@ impl KeyIndex {
         ensures map { self.new.map ≡ fin.insert self.old.map key.0 position }
         ensures spare { self.old.spare ≤ self.new.spare + 1 }
     {
+        let before = self.spare.len();
         let tree = mem::replace(&mut self.tree, Tree::new());
         self.tree = tree.with(&mut self.spare, key, position);
+        self.keys += before - self.spare.len();
     }
 
     /// Takes a key out of the map, if the map has it; takes no memory.
@@ -75,7 +81,24 @@ impl KeyIndex {
         ensures map { self.new.map ≡ fin.remove self.old.map key.0 }
         ensures spare { self.old.spare ≤ self.new.spare }
     {
+        let before = self.spare.len();
         let tree = mem::replace(&mut self.tree, Tree::new());
         self.tree = tree.without(&mut self.spare, key);
+        self.keys -= self.spare.len() - before;
     }
+}
+
+// Makes `n` more spare nodes. Want of memory leaves those that were made.
+fn add_nodes(alloc: Global, spare: &mut Vec<Box<Node>>, n: usize) -> Result<(), Memory>
+    requires { vec_len spare.old + n ≤ vec_capacity spare.old }
+    ensures ok { OnOk result (vec_len spare.new ≡ vec_len spare.old + n) }
+    ensures least { vec_len spare.old ≤ vec_len spare.new }
+    ensures most { vec_len spare.new ≤ vec_len spare.old + n }
+    ensures capacity { vec_capacity spare.new ≡ vec_capacity spare.old }
+{
+    'nodes: for _ in 0..n {
+        let node = Box::new(alloc, Node::blank())?;
+        spare.push_reserved(node);
+    }
+    Ok(())
 }

@@ -92,9 +92,9 @@ impl Tree {
     {
         let mut tree = self;
         'down: while let Link::Fork(node) = &tree.root {
-            if key.0 < node.key.0 {
+            if is_below(key, node.key) {
                 tree = &node.left;
-            } else if node.key.0 < key.0 {
+            } else if is_below(node.key, key) {
                 tree = &node.right;
             } else {
                 return Some(node.position);
@@ -106,7 +106,7 @@ impl Tree {
     /// The tree with the position of a key set, by one of the spare nodes if the key is new.
     pub fn with(self, spare: &mut Vec<Box<Node>>, key: Key, position: u64) -> Tree
         requires room { 1 ≤ vec_len spare.old }
-        requires low { self.height < 2 ^ 63 }
+        requires few { length self.list < 2 ^ 63 }
         ensures list { result.list ≡ with_entry (key.0, position) self.list }
         ensures not_lower { self.height ≤ result.height }
         ensures at_most_one_higher { result.height ≤ self.height + 1 }
@@ -116,10 +116,10 @@ impl Tree {
         let Some(Parts { mut node, left, right }) = self.parts() else {
             return single(spare, key, position);
         };
-        if key.0 < node.key.0 {
+        if is_below(key, node.key) {
             return even(node, left.with(spare, key, position), right);
         }
-        if node.key.0 < key.0 {
+        if is_below(node.key, key) {
             return even(node, left, right.with(spare, key, position));
         }
         node.position = position;
@@ -129,7 +129,8 @@ impl Tree {
     /// The tree without a key, whose node becomes spare.
     pub fn without(self, spare: &mut Vec<Box<Node>>, key: Key) -> Tree
         requires room { vec_len spare.old + length self.list ≤ vec_capacity spare.old }
-        requires low { self.height < 2 ^ 63 }
+        requires few { length self.list < 2 ^ 63 }
+        ensures rise { KeysRise self.list }
         ensures list { result.list ≡ without_key key.0 self.list }
         ensures not_higher { result.height ≤ self.height }
         ensures at_most_one_lower { self.height ≤ result.height + 1 }
@@ -139,10 +140,10 @@ impl Tree {
         let Some(Parts { node, left, right }) = self.parts() else {
             return Tree::new();
         };
-        if key.0 < node.key.0 {
+        if is_below(key, node.key) {
             return even(node, left.without(spare, key), right);
         }
-        if node.key.0 < key.0 {
+        if is_below(node.key, key) {
             return even(node, left, right.without(spare, key));
         }
         spare.push_reserved(node);
@@ -172,6 +173,13 @@ struct Parts {
     node: Box<Node>,
     left: Tree,
     right: Tree,
+}
+
+// Whether a key is below another.
+fn is_below(key: Key, other: Key) -> bool
+    ensures { result ≡ int_lt key.0 other.0 }
+{
+    key.0 < other.0
 }
 
 // The tree of two sides that stood beside one node.

@@ -1,0 +1,2 @@
+mod KeyMaps
+mod KeyOrder
