@@ -1,2 +1,3 @@
+mod Columns
 mod KeyMaps
 mod KeyOrder

@@ -107,7 +107,10 @@ fn move_rows(latest: &mut VecDeque<TailRow>, rows: &mut Vec<TailRow>, words: &mu
 // Packs the words of a row's vector behind those that are there; takes no memory.
 fn keep_words(words: &mut Vec<u64>, row: &Row)
     requires { vec_len words.old + width_of (length row.now.vector) ≤ vec_capacity words.old }
+    ensures front { take (vec_len words.old) words.new.items ≡ words.old.items }
     ensures words { AreWordsOf row.now.vector (drop (vec_len words.old) words.new.items) }
+    ensures len { vec_len words.new ≡ vec_len words.old + width_of (length row.now.vector) }
+    ensures capacity { vec_capacity words.old ≤ vec_capacity words.new }
 {
     let _ = words.extend_from_slice(row.vector.words());
 }

@@ -1,0 +1,15 @@
+use Rattle.std.proofs.Common.{◌≡◌, ◌+◌, ◌*◌, ◌≤◌, ◌++◌, vec_len, vec_capacity, length}
+use Rattle.std.specs.List.{AllByRecursion}
+use Rattle.growing_segment.specs.Tails.{HasDimension, IsColumn, width_of}
+use Rattle.growing_segment.proofs.blocks.move_rows.Given as goal
+
+abbrev pub invariant-rows : goal.invariant-rows
+invariant-rows g l = record {
+  moved : l.rows.items ++ l.latest.items ≡ l.fn.latest.items;
+  many : vec_len l.rows ≡ l.counter;
+  fit : AllByRecursion (HasDimension g.dim) l.latest.items;
+  column : IsColumn (width_of g.dim) l.rows.items l.words.items;
+  words : vec_len l.words ≡ l.counter * width_of g.dim;
+  row_room : vec_capacity l.rows ≡ vec_capacity l.fn.rows;
+  word_room : vec_capacity l.fn.words ≤ vec_capacity l.words
+}
