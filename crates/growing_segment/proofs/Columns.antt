@@ -1,5 +1,5 @@
 -- One more row in a column of words, and rows moved from the front of a tail.
-use Rattle.std.proofs.Common.{◌≡◌, ℕ, zero, suc, ◌+◌, ◌*◌, ◌≤◌, ◌<◌, List, [], ◌∷◌, ◌++◌, length, take, drop, refl, sym, ap, subst, ◌∙◌, arith, append_assoc, length-append}
+use Rattle.std.proofs.Common.{◌≡◌, ℕ, zero, suc, ◌+◌, ◌*◌, ◌≤◌, ◌<◌, List, [], ◌∷◌, ◌++◌, length, take, drop, get_or, refl, sym, ap, subst, ◌∙◌, arith, append_assoc, length-append}
 use Rattle.std.proofs.lemmas.List.{take-append-le, drop-append-le, take-append-drop, take_at, drop_at, take_all, drop_all, length-take-le, append-nil}
 use Rattle.std.specs.List.{AllByRecursion}
 use Rattle.row_types.specs.Bits.{AreWordsOf}
@@ -57,3 +57,8 @@ all_front P (x ∷ xs) ys a = (a.0, all_front P xs ys a.1)
 pub all_back : {X : Type 0} (P : X → Type 0) (xs ys : List X) → AllByRecursion P (xs ++ ys) → AllByRecursion P ys
 all_back P [] ys a = a
 all_back P (x ∷ xs) ys a = all_back P xs ys a.1
+
+pub all_at : {X : Type 0} (P : X → Type 0) (xs : List X) (k : ℕ) (d : X) → AllByRecursion P xs → k < length xs → P (get_or xs k d)
+all_at P [] k d a h = absurd (omega arith)
+all_at P (x ∷ xs) zero d a h = a.0
+all_at P (x ∷ xs) (suc k) d a h = all_at P xs k d a.1 (omega arith)

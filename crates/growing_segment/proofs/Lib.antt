@@ -1,3 +1,4 @@
 mod Columns
 mod KeyMaps
 mod KeyOrder
+mod TailLaws

@@ -2,7 +2,7 @@
 use Rattle.std.specs.Prelude.{◌≡◌, ℕ, ◌+◌, ◌*◌, ◌≤◌, List, ◌++◌, length}
 use Rattle.std.specs.List.{AllByRecursion}
 use Rattle.log_model.specs.Places.{Placed}
-use Rattle.growing_segment.specs.Tails.{Rows, HasDimension, AreOfTail, width_of, IsColumn, rows_in}
+use Rattle.growing_segment.specs.Tails.{Rows, HasDimension, HasChunkDimension, IsWhole, AreOfTail, width_of, IsColumn, rows_in}
 use Rattle.growing_segment.specs.Trees.{Entries}
 
 -- of the fields of a chunk's block: the words are those of the rows, and there was room for a whole chunk
@@ -13,20 +13,11 @@ pub record IsBlock (dim : ℕ) (rows : List Placed) (words : List ℕ) (row_room
   pub holds_rows : 256 ≤ row_room
   pub holds_words : 256 * width_of dim ≤ word_room
 
--- a frozen chunk is whole and of the tail's dimension
-pub record IsChunkOf (dim : ℕ) (chunk : Rows) : Type 0 where
-  pub whole : length chunk.rows ≡ 256
-  pub same : chunk.dim ≡ dim
-
--- of the fields of a tail
+-- of the fields of a tail, and of a shared one
 pub record KeepsTail (dim : ℕ) (chunks : List Rows) (latest : List Placed) : Type 0 where
   pub dim_fits : dim ≤ 4096
-  pub chunks_fit : AllByRecursion (IsChunkOf dim) chunks
-  pub rows_fit : AreOfTail dim (rows_in chunks ++ latest)
-
--- of the fields of a shared tail
-pub record KeepsShared (dim : ℕ) (chunks : List Rows) (latest : List Placed) : Type 0 where
-  pub chunks_fit : AllByRecursion (IsChunkOf dim) chunks
+  pub whole : AllByRecursion IsWhole chunks
+  pub dims : AllByRecursion (HasChunkDimension dim) chunks
   pub rows_fit : AreOfTail dim (rows_in chunks ++ latest)
 
 -- of the fields of a key index: all its nodes have room among the spare ones

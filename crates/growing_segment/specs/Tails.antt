@@ -43,6 +43,10 @@ abbrev pub IsColumn : ℕ → List Placed → List ℕ → Type 0
 IsColumn width [] words = words ≡ []
 IsColumn width (x ∷ rows) words = (width ≤ length words) × AreWordsOf x.row.vector (take width words) × IsColumn width rows (drop width words)
 
+-- a chunk that is frozen is full
+abbrev pub IsWhole : Rows → Type 0
+IsWhole chunk = length chunk.rows ≡ 256
+
 abbrev pub HasChunkDimension : ℕ → Rows → Type 0
 HasChunkDimension dim chunk = chunk.dim ≡ dim
 

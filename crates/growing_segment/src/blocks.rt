@@ -3,6 +3,7 @@
 ghost use Rattle.std.specs.Prelude.{◌≡◌, ℕ, ◌+◌, ◌≤◌, ◌*◌, [], length, take, drop, IfOk, vec_len, vec_capacity};
 ghost use Rattle.row_types.specs.Bits.{AreWordsOf};
 ghost use Rattle.std.specs.List.{AllByRecursion};
+ghost use Rattle.std.specs.VecDeque.{deque_capacity};
 ghost use Rattle.growing_segment.specs.Tails.{HasDimension, IsColumn, width_of};
 
 use log_model::TailRow;
@@ -55,6 +56,7 @@ impl Block {
         ensures dim { self.new.dim ≡ self.old.dim }
         ensures rows { self.new.rows ≡ take 256 latest.old.items }
         ensures rest { latest.new.items ≡ drop 256 latest.old.items }
+        ensures capacity { deque_capacity latest.new ≡ deque_capacity latest.old }
     {
         move_rows(latest, &mut self.rows, &mut self.words);
     }
@@ -91,6 +93,7 @@ fn move_rows(latest: &mut VecDeque<TailRow>, rows: &mut Vec<TailRow>, words: &mu
     requires word_room { 256 * width_of dim ≤ vec_capacity words.old }
     ensures rows { rows.new.items ≡ take 256 latest.old.items }
     ensures rest { latest.new.items ≡ drop 256 latest.old.items }
+    ensures capacity { deque_capacity latest.new ≡ deque_capacity latest.old }
     ensures column { IsColumn (width_of dim) rows.new.items words.new.items }
     ensures row_room { vec_capacity rows.new ≡ vec_capacity rows.old }
     ensures word_room { vec_capacity words.old ≤ vec_capacity words.new }

@@ -1,11 +1,12 @@
 //! Rows that no call changes any more, with their vectors' words in one column.
 
-ghost use Rattle.std.specs.Prelude.{◌≡◌, ◌≤◌, [], length, take, drop, IfOk, OnOk, OnErr};
+ghost use Rattle.std.specs.Prelude.{◌≡◌, ◌≤◌, ◌<◌, ◌*◌, ◌++◌, [], length, take, drop, slice_get, Some, IfOk, OnOk, OnErr};
 ghost use Rattle.std.specs.Arc.{arc_value};
 ghost use Rattle.std.specs.List.{AllByRecursion};
-ghost use Rattle.growing_segment.specs.Tails.{HasDimension, IsColumn, width_of};
+ghost use Rattle.std.specs.VecDeque.{deque_len, deque_capacity};
+ghost use Rattle.growing_segment.specs.Tails.{HasDimension, HasChunkDimension, IsWhole, IsColumn, width_of, rows_in};
 
-use crate::blocks::Block;
+use crate::blocks::{Block, CHUNK_ROWS};
 use log_model::TailRow;
 use row_types::Memory;
 use std::alloc::Global;
@@ -43,6 +44,7 @@ impl Chunk {
         ensures rows { IfOk result (λ c. c.rows ≡ take 256 latest.old.items) }
         ensures rest { OnOk result (latest.new.items ≡ drop 256 latest.old.items) }
         ensures err { OnErr result (latest.new.items ≡ latest.old.items) }
+        ensures capacity { deque_capacity latest.new ≡ deque_capacity latest.old }
     {
         let block = Block::new(alloc, dim)?;
         let mut block = Arc::new(alloc, block)?;
@@ -82,4 +84,38 @@ impl Chunk {
     {
         self.block.dim()
     }
+}
+
+/// Freezes all whole chunks of a tail's latest rows. Want of memory leaves the rest as they were.
+pub(crate) fn freeze_all(
+    alloc: Global,
+    dim: u32,
+    frozen: &mut Vec<Chunk>,
+    latest: &mut VecDeque<TailRow>,
+) -> Result<(), Memory>
+    requires dim { dim ≤ 4096 }
+    requires fit { AllByRecursion (HasDimension dim) latest.old.items }
+    requires whole { AllByRecursion IsWhole frozen.old.items }
+    requires dims { AllByRecursion (HasChunkDimension dim) frozen.old.items }
+    ensures rows { rows_in frozen.new.items ++ latest.new.items ≡ rows_in frozen.old.items ++ latest.old.items }
+    ensures whole { AllByRecursion IsWhole frozen.new.items }
+    ensures dims { AllByRecursion (HasChunkDimension dim) frozen.new.items }
+    ensures fewer { deque_len latest.new ≤ deque_len latest.old }
+    ensures capacity { deque_capacity latest.new ≡ deque_capacity latest.old }
+{
+    'chunks: while latest.len() >= CHUNK_ROWS {
+        frozen.reserve(1)?;
+        let chunk = Chunk::freeze(alloc, dim, latest)?;
+        frozen.push_reserved(chunk);
+    }
+    Ok(())
+}
+
+/// The row at a place of whole chunks.
+pub(crate) fn row_in(chunks: &[Chunk], at: usize) -> &TailRow
+    requires whole { AllByRecursion IsWhole chunks.now }
+    requires place { at < 256 * length chunks.now }
+    ensures { slice_get (rows_in chunks.now) at ≡ Some result.now }
+{
+    &chunks[at / CHUNK_ROWS].rows()[at % CHUNK_ROWS]
 }

@@ -6,7 +6,7 @@ ghost use Rattle.log_model.specs.Places.{placed};
 ghost use Rattle.growing_segment.specs.Tails.{AreOfTail, IsBefore};
 
 use crate::blocks::CHUNK_ROWS;
-use crate::chunks::Chunk;
+use crate::chunks::{Chunk, freeze_all, row_in};
 use crate::shared_tail::SharedTail;
 use hybrid_time::Timestamp;
 use log_model::{SharedRow, TailRow, TailRows};
@@ -59,7 +59,7 @@ impl Growing {
         ensures dim { self.new.dim ≡ self.old.dim }
         ensures rows { self.new.rows ≡ self.old.rows }
     {
-        self.freeze(alloc)?;
+        freeze_all(alloc, self.dim, &mut self.frozen, &mut self.latest)?;
         self.latest.reserve(n as usize)?;
         Ok(())
     }
@@ -86,7 +86,7 @@ impl Growing {
         ensures same_rows { self.new.rows ≡ self.old.rows }
         ensures spare { self.old.spare ≤ self.new.spare }
     {
-        self.freeze(alloc)?;
+        freeze_all(alloc, self.dim, &mut self.frozen, &mut self.latest)?;
         SharedTail::of(alloc, self.dim, &self.frozen, &self.latest)
     }
 
@@ -117,20 +117,6 @@ impl Growing {
     {
         self.dim
     }
-
-    // Freezes all whole chunks. Want of memory leaves the rest latest.
-    fn freeze(&mut self, alloc: Global) -> Result<(), Memory>
-        ensures dim { self.new.dim ≡ self.old.dim }
-        ensures rows { self.new.rows ≡ self.old.rows }
-        ensures spare { self.old.spare ≤ self.new.spare }
-    {
-        while self.latest.len() >= CHUNK_ROWS {
-            self.frozen.reserve(1)?;
-            let chunk = Chunk::freeze(alloc, self.dim, &mut self.latest)?;
-            self.frozen.push_reserved(chunk);
-        }
-        Ok(())
-    }
 }
 
 impl TailRows for Growing {
@@ -144,7 +130,7 @@ impl TailRows for Growing {
         let at = i as usize;
         let frozen = CHUNK_ROWS * self.frozen.len();
         if at < frozen {
-            return &self.frozen[at / CHUNK_ROWS].rows()[at % CHUNK_ROWS];
+            return row_in(&self.frozen, at);
         }
         &self.latest[at - frozen]
     }

@@ -3,10 +3,10 @@
 ghost use Rattle.std.specs.Prelude.{◌≡◌, ◌≤◌, ◌++◌, IfOk};
 ghost use Rattle.std.specs.List.{AllByRecursion};
 ghost use Rattle.growing_segment.specs.Tails.{AreOfTail, HasChunkDimension, rows_in};
-ghost use Rattle.growing_segment.specs.Kept.{KeepsShared};
+ghost use Rattle.growing_segment.specs.Kept.{KeepsTail};
 
 use crate::blocks::CHUNK_ROWS;
-use crate::chunks::Chunk;
+use crate::chunks::{Chunk, row_in};
 use log_model::{TailRow, TailRows};
 use row_types::Memory;
 use std::alloc::Global;
@@ -25,13 +25,13 @@ pub struct SharedTail {
 impl Model for SharedTail {
     ghost use Rattle.std.specs.Prelude.{◌++◌};
     ghost use Rattle.growing_segment.specs.Tails.{Rows, rows_in};
-    ghost use Rattle.growing_segment.specs.Kept.{KeepsShared};
+    ghost use Rattle.growing_segment.specs.Kept.{KeepsTail};
 
     ghost Value = { Rows };
 
     ghost view = { λ t. record { dim = t.dim; rows = rows_in t.chunks.items ++ t.latest.items } };
 
-    ghost invariant = { λ t. KeepsShared t.dim t.chunks.items t.latest.items };
+    ghost invariant = { λ t. KeepsTail t.dim t.chunks.items t.latest.items };
 }
 
 impl SharedTail {
@@ -42,7 +42,7 @@ impl SharedTail {
         frozen: &[Chunk],
         latest: &VecDeque<TailRow>,
     ) -> Result<SharedTail, Memory>
-        requires { KeepsShared dim frozen.now latest.now.items }
+        requires { KeepsTail dim frozen.now latest.now.items }
         ensures dim { IfOk result (λ t. t.dim ≡ dim) }
         ensures rows { IfOk result (λ t. t.rows ≡ rows_in frozen.now ++ latest.now.items) }
     {
@@ -110,7 +110,7 @@ impl TailRows for SharedTail {
         let at = i as usize;
         let frozen = CHUNK_ROWS * self.chunks.len();
         if at < frozen {
-            return &self.chunks[at / CHUNK_ROWS].rows()[at % CHUNK_ROWS];
+            return row_in(&self.chunks, at);
         }
         &self.latest[at - frozen]
     }

@@ -31,6 +31,7 @@ rows-preserved g c =
       fit = fit.1;
       column = rw c.push_reserved.ensures.items (column-more (width_of g.dim) _ c.rows.rows.items c.in-Some.row _ _ c.keep_words.ensures.front are (ap width_of fit.0) c.rows.invariant.column);
       words = omega arith;
+      capacity = c.in-Some.ensures.capacity ∙ c.rows.invariant.capacity;
       row_room = omega arith;
       word_room = omega arith
     }

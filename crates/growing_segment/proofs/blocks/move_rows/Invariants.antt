@@ -1,5 +1,6 @@
 use Rattle.std.proofs.Common.{◌≡◌, ◌+◌, ◌*◌, ◌≤◌, ◌++◌, vec_len, vec_capacity, length}
 use Rattle.std.specs.List.{AllByRecursion}
+use Rattle.std.specs.VecDeque.{deque_capacity}
 use Rattle.growing_segment.specs.Tails.{HasDimension, IsColumn, width_of}
 use Rattle.growing_segment.proofs.blocks.move_rows.Given as goal
 
@@ -10,6 +11,7 @@ invariant-rows g l = record {
   fit : AllByRecursion (HasDimension g.dim) l.latest.items;
   column : IsColumn (width_of g.dim) l.rows.items l.words.items;
   words : vec_len l.words ≡ l.counter * width_of g.dim;
+  capacity : deque_capacity l.latest ≡ deque_capacity l.fn.latest;
   row_room : vec_capacity l.rows ≡ vec_capacity l.fn.rows;
   word_room : vec_capacity l.fn.words ≤ vec_capacity l.words
 }
