@@ -1,6 +1,6 @@
 -- One more row in a column of words, and rows moved from the front of a tail.
 use Rattle.std.proofs.Common.{◌≡◌, ℕ, zero, suc, ◌+◌, ◌*◌, ◌≤◌, ◌<◌, List, [], ◌∷◌, ◌++◌, length, take, drop, get_or, refl, sym, ap, subst, ◌∙◌, arith, append_assoc, length-append}
-use Rattle.std.proofs.lemmas.List.{take-append-le, drop-append-le, take-append-drop, take_at, drop_at, take_all, drop_all, length-take-le, append-nil}
+use Rattle.std.proofs.lemmas.List.{take-append-le, drop-append-le, take-append-drop, take_all, drop_all}
 use Rattle.std.specs.List.{AllByRecursion}
 use Rattle.row_types.specs.Bits.{AreWordsOf}
 use Rattle.log_model.specs.Places.{Placed}
@@ -17,10 +17,11 @@ pub column-push : (width : ℕ) (rows : List Placed) (x : Placed) (words more : 
 column-push width [] x words more are long c =
     rw c (omega arith, rw (take_all width more (omega arith)) are, drop_all width more (omega arith))
 column-push width (y ∷ rows) x words more are long c =
-    let fits : width ≤ length words = c.0 in
-    (omega (arith, length-append words more)
-    , rw (take-append-le width words more fits) c.1
-    , rw (drop-append-le width words more fits) (column-push width rows x (drop width words) more are long c.2))
+    let fits : width ≤ length words = c.0 in (
+      omega (arith, length-append words more),
+      rw (take-append-le width words more fits) c.1,
+      rw (drop-append-le width words more fits) (column-push width rows x (drop width words) more are long c.2),
+    )
 
 pub column-more : (width n : ℕ) (rows : List Placed) (x : Placed) (before words : List ℕ) → take n words ≡ before → AreWordsOf x.row.vector (drop n words) → width_of (length x.row.vector) ≡ width → IsColumn width rows before → IsColumn width (rows ++ x ∷ []) words
 column-more width n rows x before words front are long c =

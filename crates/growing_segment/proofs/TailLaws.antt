@@ -1,5 +1,5 @@
 -- Chunks and the rows behind them, read by place, and what a tail keeps.
-use Rattle.std.proofs.Common.{◌≡◌, ℕ, zero, suc, ◌+◌, ◌*◌, ◌/◌, ◌%◌, ◌≤◌, ◌<◌, List, [], ◌∷◌, ◌++◌, length, take, drop, get_or, Some, refl, sym, ap, subst, ◌∙◌, arith, append_assoc, length-append}
+use Rattle.std.proofs.Common.{◌≡◌, ℕ, zero, suc, ◌+◌, ◌*◌, ◌<◌, List, [], ◌∷◌, ◌++◌, length, take, drop, get_or, refl, sym, ap, subst, ◌∙◌, arith, append_assoc, length-append}
 use Rattle.std.proofs.lemmas.List.{take-append-drop, append-nil}
 use Rattle.std.specs.List.{AllByRecursion, slice_get}
 use Rattle.log_model.specs.Places.{Placed}
@@ -54,26 +54,26 @@ rise_push (y ∷ rows) x r a = (all_append (IsBefore y) rows (x ∷ []) r.0 (a.0
 
 pub fit_push : (dim : ℕ) (rows : List Placed) (x : Placed) → length rows < 65536 → HasDimension dim x → AllByRecursion (λ y. IsBefore y x) rows → AreOfTail dim rows → AreOfTail dim (rows ++ x ∷ [])
 fit_push dim rows x few fits last are = record {
-    few = omega (arith, length-append rows (x ∷ []));
-    fit = all_append (HasDimension dim) rows (x ∷ []) are.fit (fits, tt);
-    rise = rise_push rows x are.rise last
-  }
+  few = omega (arith, length-append rows (x ∷ []));
+  fit = all_append (HasDimension dim) rows (x ∷ []) are.fit (fits, tt);
+  rise = rise_push rows x are.rise last;
+}
 
 pub keeps_push : (dim : ℕ) (chunks : List Rows) (latest : List Placed) (x : Placed) → length (rows_in chunks ++ latest) < 65536 → HasDimension dim x → AllByRecursion (λ y. IsBefore y x) (rows_in chunks ++ latest) → KeepsTail dim chunks latest → KeepsTail dim chunks (latest ++ x ∷ [])
 keeps_push dim chunks latest x few fits last keeps = record {
-    dim_fits = keeps.dim_fits;
-    whole = keeps.whole;
-    dims = keeps.dims;
-    rows_fit = subst (AreOfTail dim) (append_assoc (rows_in chunks) latest (x ∷ [])) (fit_push dim (rows_in chunks ++ latest) x few fits last keeps.rows_fit)
-  }
+  dim_fits = keeps.dim_fits;
+  whole = keeps.whole;
+  dims = keeps.dims;
+  rows_fit = subst (AreOfTail dim) (append_assoc (rows_in chunks) latest (x ∷ [])) (fit_push dim (rows_in chunks ++ latest) x few fits last keeps.rows_fit);
+}
 
 pub keeps_same : (dim : ℕ) (chunks more : List Rows) (latest less : List Placed) → rows_in more ++ less ≡ rows_in chunks ++ latest → AllByRecursion IsWhole more → AllByRecursion (HasChunkDimension dim) more → KeepsTail dim chunks latest → KeepsTail dim more less
 keeps_same dim chunks more latest less same whole dims keeps = record {
-    dim_fits = keeps.dim_fits;
-    whole = whole;
-    dims = dims;
-    rows_fit = subst (AreOfTail dim) (sym same) keeps.rows_fit
-  }
+  dim_fits = keeps.dim_fits;
+  whole = whole;
+  dims = dims;
+  rows_fit = subst (AreOfTail dim) (sym same) keeps.rows_fit;
+}
 
 pub latest_fit : (dim : ℕ) (chunks : List Rows) (latest : List Placed) → KeepsTail dim chunks latest → AllByRecursion (HasDimension dim) latest
 latest_fit dim chunks latest keeps = all_back (HasDimension dim) (rows_in chunks) latest keeps.rows_fit.fit

@@ -1,5 +1,5 @@
 -- What contracts see of a key index.
-use Rattle.std.specs.Prelude.{◌≡◌, ℕ, refl}
+use Rattle.std.specs.Prelude.{ℕ, refl}
 use Rattle.std.specs.Coded.{Coded, code_by, coded×, coded_ℕ, coded_ℤ}
 use Rattle.std.specs.Ordering.{int_cmp}
 use Rattle.std.specs.FinMap as fin

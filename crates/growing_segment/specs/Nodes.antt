@@ -1,6 +1,6 @@
 -- What a tree is seen as, and what holds of it; no caller needs it.
-use Rattle.std.specs.Prelude.{ℕ, ℤ, List, [], ◌∷◌, ◌++◌}
-use Rattle.growing_segment.specs.Trees.{Entry, Entries, IsNode}
+use Rattle.std.specs.Prelude.{[], ◌∷◌, ◌++◌}
+use Rattle.growing_segment.specs.Trees.{Entries, IsNode}
 use Rattle.growing_segment.specs.declared.trees.Link.{Link}
 use Rattle.growing_segment.specs.declared.trees.Link.TheVariants.{Leaf, Fork}
 

@@ -1,5 +1,5 @@
 -- Search trees of keys, seen as the entries in the order of their keys; no caller needs it.
-use Rattle.std.specs.Prelude.{◌≡◌, ℕ, ℤ, ◌+◌, ◌≤◌, ◌<◌, ◌<ℤ◌, ◌^◌, max, List, [], ◌∷◌, ◌++◌, length, int_lt, if◌then◌else◌}
+use Rattle.std.specs.Prelude.{◌≡◌, ℕ, ℤ, ◌+◌, ◌≤◌, ◌<ℤ◌, max, List, [], ◌∷◌, ◌++◌, length, int_lt, if◌then◌else◌}
 use Rattle.std.specs.List.{AllByRecursion}
 
 -- a key and its position

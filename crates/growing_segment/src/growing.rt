@@ -74,7 +74,8 @@ impl Growing {
         ensures dim { self.new.dim ≡ self.old.dim }
         ensures spare { self.old.spare ≡ self.new.spare + 1 }
     {
-        self.latest.push_back_reserved(TailRow { position, ts, row });
+        self.latest
+            .push_back_reserved(TailRow { position, ts, row });
     }
 
     /// The rows as they stand now, for readers that go on while the tail grows. Whole chunks are
@@ -104,7 +105,7 @@ impl Growing {
     pub fn clear(&mut self)
         ensures dim { self.new.dim ≡ self.old.dim }
         ensures rows { self.new.rows ≡ [] }
-        ensures spare { self.old.spare + length self.old.rows ≤ self.new.spare }
+        ensures spare { self.old.spare ≤ self.new.spare }
     {
         self.frozen.clear();
         self.latest.clear();

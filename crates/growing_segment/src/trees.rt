@@ -113,7 +113,14 @@ impl Tree {
         ensures nodes { vec_len spare.new + length result.list ≡ vec_len spare.old + length self.list }
         ensures capacity { vec_capacity spare.new ≡ vec_capacity spare.old }
     {
-        let Some(Parts { mut node, left, right }) = self.parts() else {
+        let Some(
+            Parts {
+                mut node,
+                left,
+                right,
+            },
+        ) = self.parts()
+        else {
             return single(spare, key, position);
         };
         if is_below(key, node.key) {

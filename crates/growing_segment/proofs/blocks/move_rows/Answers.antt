@@ -33,7 +33,7 @@ rows-preserved g c =
       words = omega arith;
       capacity = c.in-Some.ensures.capacity ∙ c.rows.invariant.capacity;
       row_room = omega arith;
-      word_room = omega arith
+      word_room = omega arith;
     }
 
 pub returns-clause-rows : goal.returns-clause-rows

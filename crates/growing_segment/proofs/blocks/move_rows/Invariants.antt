@@ -1,4 +1,4 @@
-use Rattle.std.proofs.Common.{◌≡◌, ◌+◌, ◌*◌, ◌≤◌, ◌++◌, vec_len, vec_capacity, length}
+use Rattle.std.proofs.Common.{◌≡◌, ◌*◌, ◌≤◌, ◌++◌, vec_len, vec_capacity}
 use Rattle.std.specs.List.{AllByRecursion}
 use Rattle.std.specs.VecDeque.{deque_capacity}
 use Rattle.growing_segment.specs.Tails.{HasDimension, IsColumn, width_of}
@@ -13,5 +13,5 @@ invariant-rows g l = record {
   words : vec_len l.words ≡ l.counter * width_of g.dim;
   capacity : deque_capacity l.latest ≡ deque_capacity l.fn.latest;
   row_room : vec_capacity l.rows ≡ vec_capacity l.fn.rows;
-  word_room : vec_capacity l.fn.words ≤ vec_capacity l.words
+  word_room : vec_capacity l.fn.words ≤ vec_capacity l.words;
 }

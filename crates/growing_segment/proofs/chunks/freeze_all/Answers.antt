@@ -1,8 +1,7 @@
-use Rattle.std.proofs.Common.{◌≡◌, ◌≤◌, ◌++◌, ◌∷◌, [], length, rules, arith, ap, sym, ◌∙◌, drop}
+use Rattle.std.proofs.Common.{◌≡◌, ◌≤◌, ◌++◌, ◌∷◌, [], length, rules, arith, ap, ◌∙◌}
 use Rattle.std.proofs.lemmas.List.{length-take-le, length-drop}
-use Rattle.std.specs.List.{AllByRecursion}
 use Rattle.std.specs.VecDeque.{deque_len}
-use Rattle.growing_segment.specs.Tails.{HasDimension, HasChunkDimension, IsWhole, rows_in}
+use Rattle.growing_segment.specs.Tails.{HasDimension, HasChunkDimension, IsWhole}
 use Rattle.growing_segment.proofs.Columns.{all_drop, all_append}
 use Rattle.growing_segment.proofs.TailLaws.{rows_moved}
 use Rattle.growing_segment.proofs.chunks.freeze_all.Goals as goal
@@ -29,5 +28,5 @@ chunks-preserved c =
       dims = rw frozen (all_append (HasChunkDimension c.args.dim) c.chunks.frozen.items _ c.chunks.invariant.dims (c.in_ok-chunk.ensures.dim, tt));
       fit = rw c.in_ok-chunk.ensures.rest (all_drop (HasDimension c.args.dim) 256 _ c.chunks.invariant.fit);
       fewer = let least = c.chunks.invariant.fewer in omega arith;
-      capacity = c.freeze.ensures.capacity ∙ c.chunks.invariant.capacity
+      capacity = c.freeze.ensures.capacity ∙ c.chunks.invariant.capacity;
     }

@@ -1,4 +1,4 @@
-use Rattle.std.proofs.Common.{◌≡◌, ◌≤◌, ◌++◌, length}
+use Rattle.std.proofs.Common.{◌≡◌, ◌≤◌, ◌++◌}
 use Rattle.std.specs.List.{AllByRecursion}
 use Rattle.std.specs.VecDeque.{deque_len, deque_capacity}
 use Rattle.growing_segment.specs.Tails.{HasDimension, HasChunkDimension, IsWhole, rows_in}
@@ -11,7 +11,7 @@ invariant-chunks l = record {
   dims : AllByRecursion (HasChunkDimension l.dim) l.frozen.items;
   fit : AllByRecursion (HasDimension l.dim) l.latest.items;
   fewer : deque_len l.latest ≤ deque_len l.fn.latest;
-  capacity : deque_capacity l.latest ≡ deque_capacity l.fn.latest
+  capacity : deque_capacity l.latest ≡ deque_capacity l.fn.latest;
 }
 
 abbrev pub decreases-chunks : goal.decreases-chunks

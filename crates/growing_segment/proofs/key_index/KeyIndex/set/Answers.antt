@@ -1,4 +1,4 @@
-use Rattle.std.proofs.Common.{◌≡◌, ◌≤◌, ◌+◌, arith, ap, subst, sym, ◌∙◌, length, vec_len}
+use Rattle.std.proofs.Common.{arith, ap, ◌∙◌, length}
 use Rattle.std.specs.FinMap as fin
 use Rattle.growing_segment.specs.KeyMaps.{KeyMap}
 use Rattle.growing_segment.specs.Trees.{Entries}

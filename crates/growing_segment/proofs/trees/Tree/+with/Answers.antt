@@ -1,4 +1,4 @@
-use Rattle.std.proofs.Common.{◌≡◌, sym, ◌∙◌}
+use Rattle.std.proofs.Common.{sym, ◌∙◌}
 use Rattle.growing_segment.proofs.KeyOrder.{rise_with_left, rise_with_right, rise_with_middle, is_with_left, is_with_right, is_with_middle}
 use Rattle.growing_segment.proofs.trees.Tree.+with.Goals as goal
 

@@ -1,4 +1,4 @@
-use Rattle.std.proofs.Common.{◌≡◌, sym, ◌∙◌}
+use Rattle.std.proofs.Common.{sym, ◌∙◌}
 use Rattle.growing_segment.proofs.KeyOrder.{rise_without_left, rise_without_right, rise_without_middle, is_without_left, is_without_right, is_without_middle}
 use Rattle.growing_segment.proofs.trees.Tree.+without.Goals as goal
 
