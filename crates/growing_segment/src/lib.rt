@@ -16,3 +16,6 @@ pub use crate::chunks::Chunk;
 pub use crate::growing::Growing;
 pub use crate::key_index::KeyIndex;
 pub use crate::shared_tail::SharedTail;
+
+#[cfg(test)]
+mod tests;
