@@ -63,3 +63,7 @@ pub all_at : {X : Type 0} (P : X → Type 0) (xs : List X) (k : ℕ) (d : X) →
 all_at P [] k d a h = absurd (omega arith)
 all_at P (x ∷ xs) zero d a h = a.0
 all_at P (x ∷ xs) (suc k) d a h = all_at P xs k d a.1 (omega arith)
+
+pub all_map : {X : Type 0} (P Q : X → Type 0) → ((x : X) → P x → Q x) → (xs : List X) → AllByRecursion P xs → AllByRecursion Q xs
+all_map P Q f [] a = tt
+all_map P Q f (x ∷ xs) a = (f x a.0, all_map P Q f xs a.1)

@@ -40,7 +40,8 @@ fn row_of(alloc: Global, i: u32) -> Result<SharedRow, VectorError>
 // A tail whose i-th row has the position 2 * i and the timestamp i / 3.
 fn grown(alloc: Global, count: u32) -> Result<Growing, VectorError>
     requires { count ≤ 1000 }
-    ensures { IfOk result (λ tail. length tail.rows ≡ count) }
+    ensures rows { IfOk result (λ tail. length tail.rows ≡ count) }
+    ensures dim { IfOk result (λ tail. tail.dim ≡ 64) }
 {
     let mut tail = Growing::new(alloc, 64);
     'rows: for i in 0..count {
