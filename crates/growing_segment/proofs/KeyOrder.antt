@@ -239,7 +239,7 @@ is_found_middle q e l r whole h i s w = sym (find_middle q e l r (same_from q e.
 
 -- ---- what the map of the entries becomes
 
-eq_true : (a b : ℤ) → int_eq a b ≡ true → a ≡ b
+pub eq_true : (a b : ℤ) → int_eq a b ≡ true → a ≡ b
 eq_true a b h = grind (arith, ints)
 
 apart : (q a b : ℤ) → a <ℤ b → int_eq q a ≡ true → int_eq q b ≡ true → ⊥

@@ -3,7 +3,6 @@ use Rattle.std.specs.Prelude.{◌≡◌, ℕ, ◌+◌, ◌*◌, ◌≤◌, List,
 use Rattle.std.specs.List.{AllByRecursion}
 use Rattle.log_model.specs.Places.{Placed}
 use Rattle.growing_segment.specs.Tails.{Rows, HasDimension, HasChunkDimension, IsWhole, AreOfTail, width_of, IsColumn, rows_in}
-use Rattle.growing_segment.specs.Trees.{Entries}
 
 -- of the fields of a chunk's block: the words are those of the rows, and there was room for a whole chunk
 pub record IsBlock (dim : ℕ) (rows : List Placed) (words : List ℕ) (row_room word_room : ℕ) : Type 0 where
@@ -21,6 +20,5 @@ pub record KeepsTail (dim : ℕ) (chunks : List Rows) (latest : List Placed) : T
   pub rows_fit : AreOfTail dim (rows_in chunks ++ latest)
 
 -- of the fields of a key index: all its nodes have room among the spare ones
-pub record IsIndex (keys : ℕ) (tree : Entries) (spare capacity : ℕ) : Type 0 where
-  pub counted : keys ≡ length tree.list
-  pub room : spare + keys ≤ capacity
+pub record IsIndex (nodes spare capacity : ℕ) : Type 0 where
+  pub room : spare + nodes ≤ capacity

@@ -3,18 +3,20 @@
 ghost use Rattle.std.specs.Prelude.{◌≡◌, ◌+◌, ◌≤◌, vec_len, vec_capacity, IfOk, OnOk};
 ghost use Rattle.std.specs.FinMap as fin;
 
-use crate::trees::{Node, Tree};
+use crate::buckets::Buckets;
+use crate::trees::Node;
 use row_types::{Key, Memory};
 use std::alloc::Global;
 use std::marker::Model;
-use std::mem;
+
+// How many trees an index begins with.
+const FIRST_TREES: usize = 16;
 
 /// A finite map from keys to positions. Contracts see the map, and how many more keys it takes
 /// without memory. Every call costs the logarithm of the number of keys, whatever the keys are.
 #[derive(Drop)]
 pub struct KeyIndex {
-    keys: usize,
-    tree: Tree,
+    buckets: Buckets,
     spare: Vec<Box<Node>>,
 }
 
@@ -27,11 +29,11 @@ impl Model for KeyIndex {
 
     ghost coded = { key_map_code };
 
-    ghost view = { λ i. record { map = fin.from_entries i.tree.list; spare = vec_len i.spare } };
+    ghost view = { λ i. record { map = i.buckets.map; spare = vec_len i.spare } };
 
     ghost use Rattle.growing_segment.specs.Kept.{IsIndex};
 
-    ghost invariant = { λ i. IsIndex i.keys i.tree (vec_len i.spare) (vec_capacity i.spare) };
+    ghost invariant = { λ i. IsIndex i.buckets.nodes (vec_len i.spare) (vec_capacity i.spare) };
 }
 
 impl KeyIndex {
@@ -39,9 +41,9 @@ impl KeyIndex {
     pub fn new(alloc: Global) -> Result<KeyIndex, Memory>
         ensures { IfOk result (λ index. index.map ≡ fin.empty) }
     {
+        let buckets = Buckets::new(alloc, FIRST_TREES)?;
         Ok(KeyIndex {
-            keys: 0,
-            tree: Tree::new(),
+            buckets,
             spare: Vec::new(alloc),
         })
     }
@@ -53,7 +55,9 @@ impl KeyIndex {
         ensures spare { self.old.spare ≤ self.new.spare }
     {
         let more = (n as usize).saturating_sub(self.spare.len());
-        self.spare.reserve(self.keys + more)?;
+        self.spare.reserve(self.buckets.nodes() + more)?;
+        let nodes = self.buckets.nodes() + self.spare.len() + more;
+        self.buckets.widen(alloc, &mut self.spare, nodes)?;
         add_nodes(alloc, &mut self.spare, more)
     }
 
@@ -61,7 +65,7 @@ impl KeyIndex {
     pub fn find(&self, key: Key) -> Option<u64>
         ensures { result ≡ fin.get self.now.map key.0 }
     {
-        self.tree.find(key)
+        self.buckets.find(key)
     }
 
     /// Sets the position of a key, which the map may have already; takes no memory.
@@ -70,10 +74,7 @@ impl KeyIndex {
         ensures map { self.new.map ≡ fin.insert self.old.map key.0 position }
         ensures spare { self.old.spare ≤ self.new.spare + 1 }
     {
-        let before = self.spare.len();
-        let tree = mem::replace(&mut self.tree, Tree::new());
-        self.tree = tree.with(&mut self.spare, key, position);
-        self.keys += before - self.spare.len();
+        self.buckets.set(&mut self.spare, key, position);
     }
 
     /// Takes a key out of the map, if the map has it; takes no memory.
@@ -81,10 +82,7 @@ impl KeyIndex {
         ensures map { self.new.map ≡ fin.remove self.old.map key.0 }
         ensures spare { self.old.spare ≤ self.new.spare }
     {
-        let before = self.spare.len();
-        let tree = mem::replace(&mut self.tree, Tree::new());
-        self.tree = tree.without(&mut self.spare, key);
-        self.keys -= self.spare.len() - before;
+        self.buckets.clear(&mut self.spare, key);
     }
 }
 

@@ -6,6 +6,7 @@
 #![tactic(auto)]
 
 mod blocks;
+mod buckets;
 mod chunks;
 mod growing;
 mod key_index;

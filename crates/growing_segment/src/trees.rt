@@ -28,8 +28,8 @@ enum Link {
 #[derive(Drop)]
 pub struct Node {
     left: Tree,
-    key: Key,
-    position: u64,
+    pub key: Key,
+    pub position: u64,
     height: u64,
     right: Tree,
 }
@@ -157,8 +157,8 @@ impl Tree {
         beside(left, right)
     }
 
-    // The root and its two sides, or None of the tree without keys.
-    fn parts(self) -> Option<Parts>
+    /// The root and its two sides, or None of the tree without keys.
+    pub fn parts(self) -> Option<Parts>
         ensures none { IsNone result → self ≡ record { list = []; height = 0 } }
         ensures list { IfSome result (λ p. self.list ≡ p.left.list ++ (p.node.value.key.0, p.node.value.position) ∷ p.right.list) }
         ensures node { IfSome result (λ p. IsNode p.left p.node.value.key.0 p.node.value.position self.height p.right) }
@@ -174,12 +174,12 @@ impl Tree {
     }
 }
 
-// A node and the sides that belong to it.
+/// A node and the sides that belong to it.
 #[derive(Drop)]
-struct Parts {
-    node: Box<Node>,
-    left: Tree,
-    right: Tree,
+pub struct Parts {
+    pub node: Box<Node>,
+    pub left: Tree,
+    pub right: Tree,
 }
 
 // Whether a key is below another.

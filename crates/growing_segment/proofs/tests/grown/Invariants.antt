@@ -7,5 +7,5 @@ abbrev pub invariant-rows : goal.invariant-rows
 invariant-rows l = record {
   many : length l.tail.rows ≡ l.i;
   dim : l.tail.dim ≡ 64;
-  below : AllByRecursion (λ (x : Placed). (x.position < 2 * l.i) × (x.ts ≤ l.i / 3)) l.tail.rows
+  below : AllByRecursion (λ (x : Placed). (x.position < 2 * l.i) × (x.ts ≤ l.i / 3)) l.tail.rows;
 }
