@@ -1,10 +1,10 @@
 -- One more row in a column of words, and rows moved from the front of a tail.
-use Rattle.std.proofs.Common.{◌≡◌, ℕ, zero, suc, ◌+◌, ◌*◌, ◌≤◌, ◌<◌, List, [], ◌∷◌, ◌++◌, length, take, drop, get_or, refl, sym, ap, subst, ◌∙◌, arith, append_assoc, length-append}
+use Rattle.std.proofs.Common.{◌≡◌, ℕ, zero, suc, ◌+◌, ◌*◌, ◌≤◌, ◌<◌, List, [], ◌∷◌, ◌++◌, length, map, take, drop, get_or, refl, sym, ap, subst, ◌∙◌, arith, append_assoc, length-append}
 use Rattle.std.proofs.lemmas.List.{take-append-le, drop-append-le, take-append-drop, take_all, drop_all}
 use Rattle.std.specs.List.{AllByRecursion}
 use Rattle.row_types.specs.Bits.{AreWordsOf}
 use Rattle.log_model.specs.Places.{Placed}
-use Rattle.growing_segment.specs.Tails.{HasDimension, width_of, IsColumn}
+use Rattle.growing_segment.specs.Tails.{HasDimension, width_of, vector_of, IsColumn}
 
 pub words_fill : (bits : List Rattle.std.proofs.Common.Bool) (words : List ℕ) → AreWordsOf bits words → length words ≡ width_of (length bits)
 words_fill bits words are =
@@ -13,7 +13,7 @@ words_fill bits words are =
     omega arith
 
 -- a row's words behind those of the rows before it
-pub column-push : (width : ℕ) (rows : List Placed) (x : Placed) (words more : List ℕ) → AreWordsOf x.row.vector more → length more ≡ width → IsColumn width rows words → IsColumn width (rows ++ x ∷ []) (words ++ more)
+pub column-push : (width : ℕ) (rows : List Placed) (x : Placed) (words more : List ℕ) → AreWordsOf x.row.vector more → length more ≡ width → IsColumn width (map vector_of rows) words → IsColumn width (map vector_of (rows ++ x ∷ [])) (words ++ more)
 column-push width [] x words more are long c =
     rw c (omega arith, rw (take_all width more (omega arith)) are, drop_all width more (omega arith))
 column-push width (y ∷ rows) x words more are long c =
@@ -23,10 +23,10 @@ column-push width (y ∷ rows) x words more are long c =
       rw (drop-append-le width words more fits) (column-push width rows x (drop width words) more are long c.2),
     )
 
-pub column-more : (width n : ℕ) (rows : List Placed) (x : Placed) (before words : List ℕ) → take n words ≡ before → AreWordsOf x.row.vector (drop n words) → width_of (length x.row.vector) ≡ width → IsColumn width rows before → IsColumn width (rows ++ x ∷ []) words
+pub column-more : (width n : ℕ) (rows : List Placed) (x : Placed) (before words : List ℕ) → take n words ≡ before → AreWordsOf x.row.vector (drop n words) → width_of (length x.row.vector) ≡ width → IsColumn width (map vector_of rows) before → IsColumn width (map vector_of (rows ++ x ∷ [])) words
 column-more width n rows x before words front are long c =
-    subst (IsColumn width (rows ++ x ∷ [])) (take-append-drop n words)
-    (column-push width rows x (take n words) (drop n words) are (words_fill _ _ are ∙ long) (subst (IsColumn width rows) (sym front) c))
+    subst (IsColumn width (map vector_of (rows ++ x ∷ []))) (take-append-drop n words)
+    (column-push width rows x (take n words) (drop n words) are (words_fill _ _ are ∙ long) (subst (IsColumn width (map vector_of rows)) (sym front) c))
 
 -- the dimension of the first row, which is that of all
 abbrev pub first_dim : List Placed → ℕ

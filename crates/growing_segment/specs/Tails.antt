@@ -1,5 +1,5 @@
 -- What contracts see of a tail, of a chunk of it, and of the key index.
-use Rattle.std.specs.Prelude.{◌≡◌, ℕ, ◌+◌, ◌/◌, ◌<◌, ◌≤◌, List, [], ◌∷◌, ◌++◌, length, take, drop}
+use Rattle.std.specs.Prelude.{◌≡◌, ℕ, ◌+◌, ◌/◌, ◌<◌, ◌≤◌, Bool, List, [], ◌∷◌, ◌++◌, length, take, drop}
 use Rattle.std.specs.List.{AllByRecursion}
 use Rattle.row_types.specs.Bits.{AreWordsOf}
 use Rattle.log_model.specs.Places.{Placed}
@@ -38,10 +38,13 @@ pub record AreOfTail (dim : ℕ) (rows : List Placed) : Type 0 where
 abbrev pub width_of : ℕ → ℕ
 width_of dim = (dim + 63) / 64
 
+abbrev pub vector_of : Placed → List Bool
+vector_of x = x.row.vector
+
 -- one column of words: those of each row's vector, `width` words a row, one row after another
-abbrev pub IsColumn : ℕ → List Placed → List ℕ → Type 0
+abbrev pub IsColumn : ℕ → List (List Bool) → List ℕ → Type 0
 IsColumn width [] words = words ≡ []
-IsColumn width (x ∷ rows) words = (width ≤ length words) × AreWordsOf x.row.vector (take width words) × IsColumn width rows (drop width words)
+IsColumn width (vector ∷ vectors) words = (width ≤ length words) × AreWordsOf vector (take width words) × IsColumn width vectors (drop width words)
 
 -- a chunk that is frozen is full
 abbrev pub IsWhole : Rows → Type 0

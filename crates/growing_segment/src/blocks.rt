@@ -1,10 +1,10 @@
 //! The memory of one chunk, filled once.
 
-ghost use Rattle.std.specs.Prelude.{◌≡◌, ℕ, ◌+◌, ◌≤◌, ◌*◌, [], length, take, drop, IfOk, vec_len, vec_capacity};
+ghost use Rattle.std.specs.Prelude.{◌≡◌, ℕ, ◌+◌, ◌≤◌, ◌*◌, [], length, map, take, drop, IfOk, vec_len, vec_capacity};
 ghost use Rattle.row_types.specs.Bits.{AreWordsOf};
 ghost use Rattle.std.specs.List.{AllByRecursion};
 ghost use Rattle.std.specs.VecDeque.{deque_capacity};
-ghost use Rattle.growing_segment.specs.Tails.{HasDimension, IsColumn, width_of};
+ghost use Rattle.growing_segment.specs.Tails.{HasDimension, IsColumn, vector_of, width_of};
 
 use log_model::TailRow;
 use row_types::{Memory, Row};
@@ -70,7 +70,7 @@ impl Block {
 
     /// The words of the rows' vectors.
     pub fn words(&self) -> &[u64]
-        ensures { IsColumn (width_of self.now.dim) self.now.rows result.now }
+        ensures { IsColumn (width_of self.now.dim) (map vector_of self.now.rows) result.now }
     {
         self.words.as_slice()
     }
@@ -94,7 +94,7 @@ fn move_rows(latest: &mut VecDeque<TailRow>, rows: &mut Vec<TailRow>, words: &mu
     ensures rows { rows.new.items ≡ take 256 latest.old.items }
     ensures rest { latest.new.items ≡ drop 256 latest.old.items }
     ensures capacity { deque_capacity latest.new ≡ deque_capacity latest.old }
-    ensures column { IsColumn (width_of dim) rows.new.items words.new.items }
+    ensures column { IsColumn (width_of dim) (map vector_of rows.new.items) words.new.items }
     ensures row_room { vec_capacity rows.new ≡ vec_capacity rows.old }
     ensures word_room { vec_capacity words.old ≤ vec_capacity words.new }
 {

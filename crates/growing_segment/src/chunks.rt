@@ -1,10 +1,10 @@
 //! Rows that no call changes any more, with their vectors' words in one column.
 
-ghost use Rattle.std.specs.Prelude.{◌≡◌, ◌≤◌, ◌<◌, ◌*◌, ◌++◌, [], length, take, drop, slice_get, Some, IfOk, OnOk, OnErr};
+ghost use Rattle.std.specs.Prelude.{◌≡◌, ◌≤◌, ◌<◌, ◌*◌, ◌++◌, [], length, map, take, drop, slice_get, Some, IfOk, OnOk, OnErr};
 ghost use Rattle.std.specs.Arc.{arc_value};
 ghost use Rattle.std.specs.List.{AllByRecursion};
 ghost use Rattle.std.specs.VecDeque.{deque_len, deque_capacity};
-ghost use Rattle.growing_segment.specs.Tails.{HasDimension, HasChunkDimension, IsWhole, IsColumn, width_of, rows_in};
+ghost use Rattle.growing_segment.specs.Tails.{HasDimension, HasChunkDimension, IsWhole, IsColumn, vector_of, width_of, rows_in};
 
 use crate::blocks::{Block, CHUNK_ROWS};
 use log_model::TailRow;
@@ -73,7 +73,7 @@ impl Chunk {
 
     /// The words of the rows' vectors in one column, as many a row as its dimension needs.
     pub fn words(&self) -> &[u64]
-        ensures { IsColumn (width_of self.now.dim) self.now.rows result.now }
+        ensures { IsColumn (width_of self.now.dim) (map vector_of self.now.rows) result.now }
     {
         self.block.words()
     }

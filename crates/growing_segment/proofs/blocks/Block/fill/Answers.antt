@@ -1,7 +1,7 @@
-use Rattle.std.proofs.Common.{◌≡◌, ℕ, List, [], ◌≤◌, ◌*◌, arith, ap, sym, subst, ◌∙◌, vec_capacity}
+use Rattle.std.proofs.Common.{◌≡◌, ℕ, List, [], ◌≤◌, ◌*◌, arith, ap, sym, subst, ◌∙◌, vec_capacity, map}
 use Rattle.std.specs.List.{AllByRecursion}
 use Rattle.log_model.specs.Places.{Placed}
-use Rattle.growing_segment.specs.Tails.{Rows, HasDimension, IsColumn, width_of}
+use Rattle.growing_segment.specs.Tails.{Rows, HasDimension, vector_of, IsColumn, width_of}
 use Rattle.growing_segment.proofs.Columns.{first_dim_is, all_take}
 use Rattle.growing_segment.proofs.blocks.Block.fill.Goals as goal
 
@@ -11,7 +11,7 @@ move_rows-requires c =
     let none : c.self.inside.rows.items ≡ [] = ap (λ (r : Rows). r.rows) c.self.view_is ∙ c.requires.empty in
     let fit = subst (λ (d : ℕ). AllByRecursion (HasDimension d) c.args.latest.now.items) (sym dims) c.requires.fit in
     let is = first_dim_is c.self.inside.dim c.args.latest.now.items (omega arith) fit in
-    let empty = subst (λ (xs : List Placed). IsColumn (width_of c.self.inside.dim) xs c.self.inside.words.items) none c.self.invariant.column in (
+    let empty = subst (λ (xs : List Placed). IsColumn (width_of c.self.inside.dim) (map vector_of xs) c.self.inside.words.items) none c.self.invariant.column in (
       c.requires.enough,
       (
         subst (λ (d : ℕ). AllByRecursion (HasDimension d) c.args.latest.now.items) (sym is) fit,
@@ -36,7 +36,7 @@ invariant_of-self c =
     record {
       dim_fits = c.self.invariant.dim_fits;
       fit = rw c.move_rows.ensures.rows (all_take _ 256 _ fit);
-      column = subst (λ (d : ℕ). IsColumn (width_of d) c.move_rows.new.rows.items c.move_rows.new.words.items) is c.move_rows.ensures.column;
+      column = subst (λ (d : ℕ). IsColumn (width_of d) (map vector_of c.move_rows.new.rows.items) c.move_rows.new.words.items) is c.move_rows.ensures.column;
       holds_rows = rw c.move_rows.ensures.row_room c.self.invariant.holds_rows;
       holds_words = let least = c.self.invariant.holds_words in let more = c.move_rows.ensures.word_room in omega arith;
     }
