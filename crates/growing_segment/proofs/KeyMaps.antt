@@ -4,8 +4,7 @@ use Rattle.std.specs.Ordering.{int_cmp, int_eq}
 use Rattle.std.specs.Cmp.{int_cmp_total}
 use Rattle.std.specs.FinMap as fin
 use Rattle.std.specs.FinMap.{find}
-use Rattle.growing_segment.specs.Trees.{Entry, KeysRise, with_entry, without_key}
-use Rattle.growing_segment.proofs.KeyOrder.{find-with_entry, find-without_key}
+use Rattle.growing_segment.specs.Trees.{Entry}
 
 -- entries in which a key was set, or taken out, or that are only arranged anew
 pub map_set : (k : ℤ) (p : ℕ) (es fs : List Entry) → ((q : ℤ) → find int_cmp q fs ≡ cond (int_eq q k) (Some p) (find int_cmp q es)) → fin.from_entries {R = int_cmp} fs ≡ fin.insert (fin.from_entries es) k p

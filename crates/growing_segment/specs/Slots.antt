@@ -1,5 +1,5 @@
 -- Which of several trees a key belongs to; no caller needs it.
-use Rattle.std.specs.Prelude.{ℕ, ℤ, ◌+◌, ◌*◌, ◌/◌, ◌%◌, ◌^◌, bit_xor}
+use Rattle.std.specs.Prelude.{ℕ, ℤ, ◌*◌, ◌/◌, ◌%◌, ◌^◌, bit_xor}
 use Rattle.std.specs.Int.{cast_unsigned, w64}
 
 -- a number below 2 ^ 32 that depends on every bit of the key

@@ -1,10 +1,9 @@
-use Rattle.std.proofs.Common.{◌≡◌, ℕ, ℤ, ◌+◌, ◌≤◌, ◌<◌, ◌++◌, ◌∷◌, List, cond, Some, length, rules, arith, sym, ap, ◌∙◌, vec_len, length-append}
+use Rattle.std.proofs.Common.{◌≡◌, ℕ, ℤ, ◌∷◌, cond, Some, length, rules, arith, sym, ap, ◌∙◌, length-append}
 use Rattle.std.specs.Ordering.{int_cmp, int_eq}
 use Rattle.std.specs.Cmp.{int_cmp_total}
 use Rattle.std.specs.FinMap as fin
 use Rattle.std.specs.FinMap.{find}
 use Rattle.growing_segment.specs.declared.trees.Node.{Node}
-use Rattle.growing_segment.specs.Trees.{Entry}
 use Rattle.growing_segment.specs.Buckets.{or_else}
 use Rattle.growing_segment.proofs.SlotLaws.{find-append, or_else_middle}
 use Rattle.growing_segment.proofs.buckets.+scatter.Goals as goal

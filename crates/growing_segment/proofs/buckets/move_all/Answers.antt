@@ -1,4 +1,4 @@
-use Rattle.std.proofs.Common.{◌≡◌, ℕ, ◌+◌, ◌≤◌, ◌<◌, ◌++◌, length, arith, sym, ap, ◌∙◌, vec_len, length-append}
+use Rattle.std.proofs.Common.{length, arith, sym, ap, ◌∙◌, length-append}
 use Rattle.std.specs.Ordering.{int_cmp}
 use Rattle.std.specs.FinMap as fin
 use Rattle.std.specs.FinMap.{find}

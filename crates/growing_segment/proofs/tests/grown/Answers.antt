@@ -1,7 +1,5 @@
-use Rattle.std.proofs.Common.{◌≡◌, ℕ, ◌+◌, ◌*◌, ◌/◌, ◌<◌, ◌≤◌, ◌++◌, ◌∷◌, [], length, arith, ap, ◌∙◌, length-append}
-use Rattle.std.specs.List.{AllByRecursion}
+use Rattle.std.proofs.Common.{◌≡◌, ◌*◌, ◌/◌, ◌<◌, ◌≤◌, ◌++◌, ◌∷◌, [], length, arith, ap, ◌∙◌, length-append}
 use Rattle.log_model.specs.Places.{Placed, placed}
-use Rattle.growing_segment.specs.Tails.{IsBefore}
 use Rattle.growing_segment.proofs.Columns.{all_append, all_map}
 use Rattle.growing_segment.proofs.tests.grown.Goals as goal
 

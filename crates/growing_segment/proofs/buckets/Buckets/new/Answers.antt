@@ -1,6 +1,5 @@
 use Rattle.std.proofs.Common.{◌≡◌, length, rules, arith, sym, ap, vec_len}
 use Rattle.std.specs.FinMap as fin
-use Rattle.growing_segment.specs.Buckets.{entries_in}
 use Rattle.growing_segment.proofs.SlotLaws.{entries_in-none, slotted_none}
 use Rattle.growing_segment.proofs.buckets.Buckets.new.Goals as goal
 

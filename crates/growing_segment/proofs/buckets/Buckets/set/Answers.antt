@@ -1,4 +1,4 @@
-use Rattle.std.proofs.Common.{◌≡◌, ℕ, ◌+◌, ◌-◌, ◌≤◌, ◌<◌, length, get_or, set, rules, arith, sym, ap, ◌∙◌, vec_len, length-set}
+use Rattle.std.proofs.Common.{◌≡◌, ◌<◌, length, rules, arith, sym, ap, ◌∙◌, vec_len, length-set}
 use Rattle.growing_segment.specs.Trees.{Entries, with_entry}
 use Rattle.growing_segment.specs.Slots.{slot_of}
 use Rattle.growing_segment.specs.Buckets.{Held, entries_in}
