@@ -24,8 +24,10 @@ fn name(reason: Reason) -> &'static str
         Reason::BadKey => "BadKey",
         Reason::NoVector => "NoVector",
         Reason::BadVector => "BadVector",
+        Reason::BadFields => "BadFields",
         Reason::BadK => "BadK",
         Reason::BadLevel => "BadLevel",
+        Reason::BadFilter => "BadFilter",
     }
 }
 

@@ -16,7 +16,7 @@ use Rattle.hybrid_time.specs.declared.levels.Level.TheVariants.{Eventually}
 use Rattle.log_model.specs.declared.logs.Write.TheVariants.{Insert}
 use Rattle.log_model.specs.declared.logs.Entry.{Entry}
 use Rattle.log_model.specs.Logs.{Rows, rows_of}
-use Rattle.log_model.specs.Scans.{hit_of, scan}
+use Rattle.log_model.specs.Scans.{hit_of, hits_found, passes_filter, scan}
 use Rattle.log_model.proofs.LogLaws.{rows_of-after}
 use Rattle.answer_lines.specs.declared.answers.Wrote.TheVariants.{Inserted, Exists}
 use Rattle.legal_output.specs.Printed.{past_of}
@@ -69,15 +69,15 @@ rises_one hit = (tt, tt)
 scan_none : (vector : List Bool) (ts : ℕ) → scan [] ts one_channel.plan (nearest_to vector) ≡ []
 unfolding scan
 scan_none vector ts =
-    ap (λ rows. least 1 (map (hit_of one_channel.plan (nearest_to vector)) (fin.values rows))) rows_of_none
-    ∙ ap (λ es. least 1 (map (hit_of one_channel.plan (nearest_to vector)) (map (λ e. e.1) es))) entries_none
+    ap (λ rows. least 1 (hits_found (passes_filter (nearest_to vector).filter) one_channel.plan (nearest_to vector) (fin.values rows))) rows_of_none
+    ∙ ap (λ es. least 1 (hits_found (passes_filter (nearest_to vector).filter) one_channel.plan (nearest_to vector) (map (λ e. e.1) es))) entries_none
     ∙ ap (λ hits. take 1 hits) (rising.in_order-of_rising hits_total [] rises_none)
 
 scan_one : (vector : List Bool) → scan (one_entry 2 (row_seven vector)) 4 one_channel.plan (nearest_to vector) ≡ found vector ∷ []
 unfolding scan
 scan_one vector =
-    ap (λ rows. least 1 (map (hit_of one_channel.plan (nearest_to vector)) (fin.values rows))) (rows_of_one 2 (row_seven vector))
-    ∙ ap (λ es. least 1 (map (hit_of one_channel.plan (nearest_to vector)) (map (λ e. e.1) es))) (entries_one (row_seven vector))
+    ap (λ rows. least 1 (hits_found (passes_filter (nearest_to vector).filter) one_channel.plan (nearest_to vector) (fin.values rows))) (rows_of_one 2 (row_seven vector))
+    ∙ ap (λ es. least 1 (hits_found (passes_filter (nearest_to vector).filter) one_channel.plan (nearest_to vector) (map (λ e. e.1) es))) (entries_one (row_seven vector))
     ∙ ap (λ hits. take 1 hits) (rising.in_order-of_rising hits_total (found vector ∷ []) (rises_one (found vector)))
 
 get_one : (vector : List Bool) → fin.get (rows_of (one_entry 2 (row_seven vector))) seven.0 ≡ Some (row_seven vector)

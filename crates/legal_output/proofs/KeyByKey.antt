@@ -13,7 +13,7 @@ use Rattle.log_model.specs.declared.logs.Entry.{Entry}
 use Rattle.log_model.specs.declared.queries.Plan.{Plan}
 use Rattle.log_model.specs.declared.queries.Query.{Query}
 use Rattle.log_model.specs.Logs.{Rows, key_of, applied, after, up_to, below, rows_of, live, was_live}
-use Rattle.log_model.specs.Scans.{hit_of, scan}
+use Rattle.log_model.specs.Scans.{hits_found, passes_filter, scan}
 use Rattle.log_model.proofs.LogLaws.{rows_of-after}
 use Rattle.legal_output.specs.Phases.{of_key}
 
@@ -102,4 +102,4 @@ same_was_live log other ts write same =
 
 pub same_scan : (log other : List Entry) (ts : ℕ) (plan : Plan) (query : Query) → ((key : ℤ) → of_key key log ≡ of_key key other) → scan log ts plan query ≡ scan other ts plan query
 unfolding scan
-same_scan log other ts plan query same = ap (λ rows. least query.k (map (hit_of plan query) (fin.values rows))) (same_live log other ts same)
+same_scan log other ts plan query same = ap (λ rows. least query.k (hits_found (passes_filter query.filter) plan query (fin.values rows))) (same_live log other ts same)

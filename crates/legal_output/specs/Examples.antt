@@ -1,5 +1,5 @@
 -- Small outputs of a collection of one channel: one that is legal, and for each clause one that breaks it alone.
-use Rattle.std.specs.Prelude.{◌≢◌, ℕ, pos, Bool, true, false, List, [], ◌∷◌, map, Some}
+use Rattle.std.specs.Prelude.{◌≢◌, ℕ, pos, Bool, true, false, List, [], ◌∷◌, map, Some, None}
 use Rattle.std.specs.List.{AllByRecursion as Each}
 use Rattle.row_types.specs.declared.rows.Key.{Key}
 use Rattle.row_types.specs.declared.rows.Row.{Row}
@@ -68,7 +68,7 @@ row_seven vector = record { key = seven; vector = vector; fields = [] }
 
 -- the one row that is nearest to a vector
 abbrev pub nearest_to : List Bool → Query
-nearest_to vector = record { vector = vector; k = 1 }
+nearest_to vector = record { vector = vector; k = 1; filter = None }
 
 -- the row as a search for its vector finds it
 abbrev pub found : List Bool → Hit

@@ -1,30 +1,26 @@
 -- Answering line by line.
-use Rattle.std.proofs.Common.{◌≡◌, ◌≢◌, ℕ, zero, suc, Bool, true, false, ◌&&◌, if◌then◌else◌, codes, Option, None, option_map, option_and_then, Result, Ok, Err, ◌+◌, ◌*◌, ◌<◌, ◌≤◌, min, List, [], ◌∷◌, ◌++◌, map, length, refl, sym, ap, ◌∙◌, subst, arith, Some, add-zero, append-nil, append_assoc, length-append, ◌^◌, ◌-◌}
+use Rattle.std.proofs.Common.{◌≡◌, ◌≢◌, ℕ, suc, Result, Ok, Err, ◌+◌, ◌<◌, ◌≤◌, List, [], ◌∷◌, ◌++◌, map, length, refl, sym, ap, ◌∙◌, subst, arith, Some, add-zero, append-nil, append_assoc, length-append}
 use Rattle.std.specs.List.{AllByRecursion as Each, flat_map}
 use Rattle.hybrid_time.specs.Times.{of_moment}
 use Rattle.coarse_lists.specs.declared.collections.Collection.{Collection}
 use Rattle.answer_lines.specs.declared.reasons.Reason.{Reason}
-use Rattle.answer_lines.specs.declared.answers.Answer.{Answer}
 use Rattle.answer_lines.specs.declared.answers.Answer.TheVariants as answers
 use Rattle.answer_lines.specs.Lines.{text_of}
 use Rattle.request_lines.specs.Headers.{header_of}
 use Rattle.input_lines.specs.Lines.{lines_of, first_line, other_lines, behind_first}
-use Rattle.serde_json.specs.Data.{Data}
 use Rattle.request_lines.specs.declared.requests.Request.{Request}
-use Rattle.request_lines.specs.declared.requests.Ask.{Ask}
-use Rattle.request_lines.specs.Json.{value_of, integer_at, has_only}
-use Rattle.request_lines.specs.Headers.{header_members, creates, dimension_of, collection_of, collection_in}
-use Rattle.request_lines.specs.Requests.{request_of, and_then, json_in, object_in, operation_in, form_in, ask_in, request_in}
+use Rattle.request_lines.specs.Requests.{request_of}
 use Rattle.log_model.proofs.LogLaws.{each-append, each_implied}
 use Rattle.legal_output.specs.Lines.{Asked, Bad, Finish, Line, Start, drawn}
 use Rattle.legal_output.specs.Printed.{all_drawn}
-use Rattle.legal_output.specs.Legal.{Numbered, IsLegal}
+use Rattle.legal_output.specs.Legal.{Numbered}
 use Rattle.legal_output.specs.Outputs.{asks_of, asked_of, start_of, printed, text_of_line, IsLegalOutput}
-use Rattle.legal_output.specs.Runs.{Plain, Serves, Run, begun, end_line}
+use Rattle.legal_output.specs.Runs.{Plain, Serves, begun, end_line}
 use Rattle.legal_output.proofs.Grown.{flat_map-push}
 use Rattle.legal_output.proofs.Stands.{run-push}
 use Rattle.legal_output.proofs.Alone.{alone_legal}
-use Rattle.manu_serve.specs.Answerings.{asked_in, IsLegalFrom, IsAnswered, Adds, IsPartly}
+use Rattle.manu_serve.specs.Answerings.{asked_in, IsAnswered, Adds, IsPartly}
+use Rattle.manu_serve.specs.Servings.{IsLegalFrom}
 
 -- a line that is no request draws nothing and changes nothing
 pub refused_serves : (start : Start) (plain : Plain) (reason : Reason) → plain.tick < plain.clock → Serves start plain (Bad reason) (answers.Refused reason) plain
@@ -187,44 +183,3 @@ of_moment-le a b h = omega arith
 
 pub drawn_later : (a b : ℕ) (ns : List ℕ) → a ≤ b → Each (λ n. of_moment b ≤ n) ns → Each (λ n. of_moment a ≤ n) ns
 drawn_later a b ns h = each_implied (λ n. of_moment b ≤ n) (λ n. of_moment a ≤ n) (λ n k. omega (arith, of_moment-le a b h, k)) ns
-
--- ---- what a line that is read is known to be
-
-then_ok : {T U : Type 0} (r : Result T Reason) (next : T → Result U Reason) (P : U → Type 0) → ((x : T) (y : U) → next x ≡ Ok y → P y) → (y : U) → and_then r next ≡ Ok y → P y
-then_ok (Ok x) next P f y e = f x y e
-then_ok (Err reason) next P f y e = cc
-
-same_caller : (ask : Ask) (r : Request) → ◌≡◌ {A = Result Request Reason} (Ok (record { caller = 0; what = ask })) (Ok r) → r.caller ≡ 0
-same_caller ask r e = cc
-
-request_alone : (collection : Collection) (d : Data) (request : Request) → request_in collection d ≡ Ok request → request.caller ≡ 0
-request_alone collection d request =
-    then_ok (and_then (operation_in d) (form_in d)) (λ operation. and_then (ask_in collection d operation) (λ ask. Ok (record { caller = 0; what = ask }))) (λ r. r.caller ≡ 0)
-    (λ operation. then_ok (ask_in collection d operation) (λ ask. Ok (record { caller = 0; what = ask })) (λ r. r.caller ≡ 0) same_caller)
-    request
-
-object_alone : (collection : Collection) (d : Data) (request : Request) → and_then (object_in d) (request_in collection) ≡ Ok request → request.caller ≡ 0
-object_alone collection d request = then_ok (object_in d) (request_in collection) (λ r. r.caller ≡ 0) (request_alone collection) request
-
-pub caller_alone : (collection : Collection) (bytes : List ℕ) (request : Request) → request_of collection bytes ≡ Ok request → request.caller ≡ 0
-caller_alone collection bytes request = then_ok (json_in bytes) (λ d. and_then (object_in d) (request_in collection)) (λ r. r.caller ≡ 0) (object_alone collection) request
-
--- the channels of a collection that is there
-abbrev channels_or : Option Collection → ℕ
-channels_or None = 1
-channels_or (Some collection) = collection.channels
-
-one_channel_of : (o : Option ℕ) (collection : Collection) → option_map collection_of o ≡ Some collection → collection.channels ≡ 1
-one_channel_of None collection e = cc
-one_channel_of (Some dim) collection e = sym (ap (λ o. channels_or o) e)
-
-one_channel_if : (b : Bool) (o : Option ℕ) (collection : Collection) → (if b then option_map collection_of o else None) ≡ Some collection → collection.channels ≡ 1
-one_channel_if true o collection e = one_channel_of o collection e
-one_channel_if false o collection e = cc
-
-one_channel_in : (o : Option Data) (collection : Collection) → option_and_then collection_in o ≡ Some collection → collection.channels ≡ 1
-one_channel_in None collection e = cc
-one_channel_in (Some d) collection e = one_channel_if (has_only header_members d && creates d) (option_and_then dimension_of (integer_at (codes "dim") d)) collection e
-
-pub one_channel : (bytes : List ℕ) (collection : Collection) → header_of bytes ≡ Some collection → collection.channels ≡ 1
-one_channel bytes collection e = one_channel_in (value_of bytes) collection e

@@ -2,13 +2,14 @@
 use Rattle.std.proofs.Common.{◌≡◌, ℕ, zero, suc, ◌+◌, ◌-◌, ◌*◌, ◌^◌, ◌<◌, ◌≤◌, ◌⊎◌, inl, inr, Bool, true, false, List, [], ◌∷◌, ◌++◌, map, take, drop, refl, sym, ap, subst, ◌∙◌, arith}
 use Rattle.std.specs.Prelude.{nat_le, Result, Ok, Err, IfOk}
 use Rattle.std.proofs.lemmas.Bool.{leb-true, leb-false}
-use Rattle.std.specs.List.{AllByRecursion as Each}
+use Rattle.std.specs.List.{filter, AllByRecursion as Each}
 use Rattle.std.specs.List.Sorted.{IsStrictlySortedBy}
 use Rattle.std.specs.Ordering.{match_ordering}
 use Rattle.std.specs.declared.cmp.Ordering.{Ordering}
 use Rattle.std.specs.declared.cmp.Ordering.TheVariants.{Less, Equal, Greater}
 use Rattle.std.specs.FinMap as fin
 use Rattle.std.proofs.lemmas.List.{append-nil}
+use Rattle.row_types.specs.declared.rows.Row.{Row}
 use Rattle.row_types.specs.declared.hits.Hit.{Hit}
 use Rattle.row_types.specs.declared.hits.Metric.{Metric}
 use Rattle.row_types.specs.declared.hits.Metric.TheVariants as metrics
@@ -25,7 +26,7 @@ use Rattle.log_model.specs.declared.logs.Entry.{Entry}
 use Rattle.log_model.specs.declared.queries.Plan.{Plan}
 use Rattle.log_model.specs.declared.queries.Query.{Query}
 use Rattle.log_model.specs.Logs.{key_of, below, rows_of, live}
-use Rattle.log_model.specs.Scans.{hit_of, scan}
+use Rattle.log_model.specs.Scans.{hit_of, passes_filter, scan}
 use Rattle.log_model.proofs.LogLaws.{each_implied, below-all, below-more, live-all}
 use Rattle.answer_lines.specs.declared.answers.Wrote.{Wrote}
 use Rattle.answer_lines.specs.declared.answers.Answer.{Answer}
@@ -124,9 +125,10 @@ each_in_order P (hit ∷ hits) all = subst (Each P) (sym (rising.in_order-cons h
 scan_metric : (log : List Entry) (ts : ℕ) (plan : Plan) (query : Query) → Each (λ hit. IsOfMetric plan.metric hit.distance) (scan log ts plan query)
 unfolding scan
 scan_metric log ts plan query =
-    rising.AllByRecursion-take (λ hit. IsOfMetric plan.metric hit.distance) query.k (in_order hit_cmp (map (hit_of plan query) (fin.values (live log ts))))
-    (each_in_order (λ hit. IsOfMetric plan.metric hit.distance) (map (hit_of plan query) (fin.values (live log ts)))
-    (each_map (λ hit. IsOfMetric plan.metric hit.distance) (hit_of plan query) (λ row. distance_metric plan.metric query.vector row.vector) (fin.values (live log ts))))
+    let rows : List Row = filter (passes_filter query.filter) (fin.values (live log ts)) in
+    rising.AllByRecursion-take (λ hit. IsOfMetric plan.metric hit.distance) query.k (in_order hit_cmp (map (hit_of plan query) rows))
+    (each_in_order (λ hit. IsOfMetric plan.metric hit.distance) (map (hit_of plan query) rows)
+    (each_map (λ hit. IsOfMetric plan.metric hit.distance) (hit_of plan query) (λ row. distance_metric plan.metric query.vector row.vector) rows))
 
 pub served_search : (start : Start) (old : Plain) (now guarantee ts clock : ℕ) (query : Query) (level : Level) (wait : Bool) (hits : List Hit)
     → old.tick < old.clock → old.clock ≤ now → 0 < start.channels
