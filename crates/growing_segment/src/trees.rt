@@ -1,6 +1,7 @@
 //! Search trees of keys, kept balanced, whose nodes are made beforehand.
 
-ghost use Rattle.std.specs.Prelude.{◌≡◌, ◌≢◌, ℕ, ◌+◌, ◌≤◌, ◌<◌, ◌^◌, max, [], ◌∷◌, ◌++◌, length, vec_len, vec_capacity, IfSome, IsNone, IsSome, ◌↔◌, int_lt};
+ghost use Rattle.std.specs.Prelude.{◌≡◌, ◌+◌, ◌≤◌, ◌<◌, ◌^◌, max, [], ◌∷◌, ◌++◌, length};
+ghost use Rattle.std.specs.Prelude.{vec_len, vec_capacity, IfSome, IsNone, int_lt};
 ghost use Rattle.std.specs.Ordering.{int_cmp};
 ghost use Rattle.std.specs.FinMap.{find};
 ghost use Rattle.growing_segment.specs.Trees.{Entries, KeysRise, DifferByAtMost, IsHeightOf, IsNode, with_entry, without_key};
