@@ -14,7 +14,7 @@ use Rattle.binlog_format.specs.Inserts.{IsColumn}
 use Rattle.seg_sealed.specs.Segments.{kind_of, int_of, bool_of, text_of, column_of, field_at, columns_from, position_of, stamp_of, key_of, vector_of, fields_of, IsRowOf}
 use Rattle.seg_sealed.specs.Fields.{kind_in, first_or, first_in, behind, others_in, row_of, rows_in}
 
-cons_same : {A : Type 0} {x y : A} {xs ys : List A} → x ≡ y → xs ≡ ys → x ∷ xs ≡ y ∷ ys
+pub cons_same : {A : Type 0} {x y : A} {xs ys : List A} → x ≡ y → xs ≡ ys → x ∷ xs ≡ y ∷ ys
 cons_same p q i = p i ∷ q i
 
 head_or : {A : Type 0} → A → List A → A
@@ -36,21 +36,17 @@ tails_same x y xs ys e = ap tail_of e
 some_is_none : {A : Type 0} (x : A) (xs : List A) → x ∷ xs ≡ [] → ⊥
 some_is_none x xs e = cc
 
+drop-none : (A : Type 0) (n : ℕ) → drop {A = A} n [] ≡ []
+drop-none A zero = refl
+drop-none A (suc n) = refl
+
 drop-next : {A : Type 0} (at : ℕ) (xs : List A) (x : A) (rest : List A) → drop at xs ≡ x ∷ rest → drop (suc at) xs ≡ rest
-drop-next at [] x rest e = absurd (some_is_none x rest (sym e ∙ drop-none at))
-  where
-    drop-none : (n : ℕ) → drop n [] ≡ []
-    drop-none zero = refl
-    drop-none (suc n) = refl
+drop-next at [] x rest e = absurd (some_is_none x rest (sym e ∙ drop-none _ at))
 drop-next zero (y ∷ xs) x rest e = tails_same y x xs rest e
 drop-next (suc at) (y ∷ xs) x rest e = drop-next at xs x rest e
 
 drop-here : {A : Type 0} (d : A) (at : ℕ) (xs : List A) (x : A) (rest : List A) → drop at xs ≡ x ∷ rest → slice_index_or xs at d ≡ x
-drop-here d at [] x rest e = absurd (some_is_none x rest (sym e ∙ drop-none at))
-  where
-    drop-none : (n : ℕ) → drop n [] ≡ []
-    drop-none zero = refl
-    drop-none (suc n) = refl
+drop-here d at [] x rest e = absurd (some_is_none x rest (sym e ∙ drop-none _ at))
 drop-here d zero (y ∷ xs) x rest e = heads_same y x xs rest e
 drop-here d (suc at) (y ∷ xs) x rest e = drop-here d at xs x rest e
 

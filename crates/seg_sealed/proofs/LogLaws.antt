@@ -1,6 +1,7 @@
 -- Segments and their insert logs.
-use Rattle.std.proofs.Common.{◌≡◌, ℕ, zero, suc, ◌+◌, ◌<◌, ◌≤◌, Bool, List, [], ◌∷◌, ◌++◌, length, map, Option, Some, None, refl, sym, ap, subst, ◌∙◌, arith, length-map}
+use Rattle.std.proofs.Common.{◌≡◌, ℕ, zero, suc, ◌+◌, ◌<◌, ◌≤◌, Bool, List, [], ◌∷◌, ◌++◌, length, map, Option, Some, None, refl, sym, ap, subst, ◌∙◌, arith}
 use Rattle.std.specs.List.{AllByRecursion}
+use Rattle.std.proofs.lemmas.List.{length-map}
 use Rattle.hybrid_time.specs.declared.times.Timestamp.{Timestamp}
 use Rattle.row_types.specs.declared.rows.Key.{Key}
 use Rattle.row_types.specs.declared.rows.Kind.{Kind}
@@ -15,7 +16,7 @@ use Rattle.binlog_format.specs.Fields.{InTurn}
 use Rattle.binlog_format.specs.Inserts.{IsInsertLog, IsAbove, after_position, IsStampFrom, after_stamp, IsColumn, IsShort}
 use Rattle.seg_sealed.specs.Segments.{SealedSegment, IsSealed, IsBefore, Rise, IsRowOf, IsShortField, kind_of, with_lists, int_of, bool_of, text_of, column_of, field_at, columns_from, position_of, stamp_of, key_of, vector_of, fields_of, log_of}
 use Rattle.seg_sealed.specs.Fields.{kind_in, first_in, others_in, rows_in, sealed_of}
-use Rattle.seg_sealed.proofs.ColumnLaws.{AreSide, rows_back, kinds_of-columns, positions_back, stamps_back, keys_back, vectors_back, columns_of-rows}
+use Rattle.seg_sealed.proofs.ColumnLaws.{cons_same, AreSide, rows_back, kinds_of-columns, positions_back, stamps_back, keys_back, vectors_back, columns_of-rows}
 
 -- ---- a segment is read back from its log
 
@@ -84,9 +85,9 @@ rows_short dim kinds [] all = tt
 rows_short dim kinds (x ∷ rows) all = (all.0.short, rows_short dim kinds rows all.1)
 
 column_fits : (at : ℕ) (k : Kind) (rows : List (List Field)) → AreShort rows → IsColumn (length rows) (column_of k (map (field_at at) rows))
-column_fits at kind.Int rows short = length-map int_of (map (field_at at) rows) ∙ length-map (field_at at) rows
-column_fits at kind.Bool rows short = length-map bool_of (map (field_at at) rows) ∙ length-map (field_at at) rows
-column_fits at kind.Text rows short = (length-map text_of (map (field_at at) rows) ∙ length-map (field_at at) rows, short_texts at rows short)
+column_fits at kind.Int rows short = length-map (map (field_at at) rows) int_of ∙ length-map rows (field_at at)
+column_fits at kind.Bool rows short = length-map (map (field_at at) rows) bool_of ∙ length-map rows (field_at at)
+column_fits at kind.Text rows short = (length-map (map (field_at at) rows) text_of ∙ length-map rows (field_at at), short_texts at rows short)
 
 columns_fit : (at : ℕ) (kinds : List Kind) (rows : List (List Field)) → AreShort rows → AllByRecursion (IsColumn (length rows)) (columns_from at kinds rows)
 columns_fit at [] rows short = tt
@@ -101,16 +102,16 @@ pub log_valid : (s : SealedSegment) → IsSealed s → IsInsertLog (log_of s)
 log_valid s is = record {
   segment = is.number;
   dim = is.dim;
-  some_rows = subst (λ n. 1 ≤ n) (sym (length-map position_of s.rows)) is.some;
-  rows = subst (λ n. n ≤ 65536) (sym (length-map position_of s.rows)) is.few;
+  some_rows = subst (λ n. 1 ≤ n) (sym (length-map s.rows position_of)) is.some;
+  rows = subst (λ n. n ≤ 65536) (sym (length-map s.rows position_of)) is.few;
   width = subst (λ n. n ≤ 16) (sym (length-columns 0 s.kinds (map fields_of s.rows))) is.width;
   positions = positions_rise s.rows is.rise;
-  a_stamp_each = length-map stamp_of s.rows ∙ sym (length-map position_of s.rows);
+  a_stamp_each = length-map s.rows stamp_of ∙ sym (length-map s.rows position_of);
   stamps = stamps_rise s.rows is.rise;
-  a_key_each = length-map key_of s.rows ∙ sym (length-map position_of s.rows);
-  a_vector_each = length-map vector_of s.rows ∙ sym (length-map position_of s.rows);
+  a_key_each = length-map s.rows key_of ∙ sym (length-map s.rows position_of);
+  a_vector_each = length-map s.rows vector_of ∙ sym (length-map s.rows position_of);
   vectors = vectors_fit s.dim s.kinds s.rows is.rows;
-  columns = subst (λ n. AllByRecursion (IsColumn n) (columns_from 0 s.kinds (map fields_of s.rows))) (length-map fields_of s.rows ∙ sym (length-map position_of s.rows)) (columns_fit 0 s.kinds (map fields_of s.rows) (rows_short s.dim s.kinds s.rows is.rows));
+  columns = subst (λ n. AllByRecursion (IsColumn n) (columns_from 0 s.kinds (map fields_of s.rows))) (length-map s.rows fields_of ∙ sym (length-map s.rows position_of)) (columns_fit 0 s.kinds (map fields_of s.rows) (rows_short s.dim s.kinds s.rows is.rows));
 }
 
 -- ---- the rules of a segment from those of a log
@@ -143,7 +144,7 @@ kind_of-first (Texts texts) = refl
 
 kinds_of-firsts : (columns : List Column) → map kind_of (map first_in columns) ≡ map kind_in columns
 kinds_of-firsts [] = refl
-kinds_of-firsts (c ∷ columns) i = kind_of-first c i ∷ kinds_of-firsts columns i
+kinds_of-firsts (c ∷ columns) = cons_same (kind_of-first c) (kinds_of-firsts columns)
 
 kind_in-others : (c : Column) → kind_in (others_in c) ≡ kind_in c
 kind_in-others (Ints ns) = refl
@@ -152,7 +153,7 @@ kind_in-others (Texts texts) = refl
 
 kinds_in-others : (columns : List Column) → map kind_in (map others_in columns) ≡ map kind_in columns
 kinds_in-others [] = refl
-kinds_in-others (c ∷ columns) i = kind_in-others c i ∷ kinds_in-others columns i
+kinds_in-others (c ∷ columns) = cons_same (kind_in-others c) (kinds_in-others columns)
 
 HasShort : Column → Type 0
 HasShort (Ints ns) = Unit {0}
@@ -205,11 +206,11 @@ pub segment_valid : (log : InsertLog) → IsInsertLog log → IsSealed (sealed_o
 segment_valid log is =
     let back = positions_back log.positions log.stamps log.keys log.vectors log.columns (sides log is) in
     let stamps = stamps_back log.positions log.stamps log.keys log.vectors log.columns (sides log is) in
-    let many : length (sealed_of log).rows ≡ length log.positions = sym (length-map position_of (sealed_of log).rows) ∙ ap length back in
+    let many : length (sealed_of log).rows ≡ length log.positions = sym (length-map (sealed_of log).rows position_of) ∙ ap length back in
     record {
       number = is.segment;
       dim = is.dim;
-      width = subst (λ n. n ≤ 16) (sym (length-map kind_in log.columns)) is.width;
+      width = subst (λ n. n ≤ 16) (sym (length-map log.columns kind_in)) is.width;
       some = subst (λ n. 1 ≤ n) (sym many) is.some_rows;
       few = subst (λ n. n ≤ 65536) (sym many) is.rows;
       rise = rise_of (sealed_of log).rows (subst (InTurn IsAbove after_position None) (sym back) is.positions) (subst (InTurn IsStampFrom after_stamp 0) (sym stamps) is.stamps);

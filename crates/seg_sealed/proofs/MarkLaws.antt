@@ -1,5 +1,5 @@
 -- Marks: looking a row up, one mark more, and marks in another order.
-use Rattle.std.proofs.Common.{◌≡◌, ◌≢◌, ℕ, zero, suc, ◌+◌, ◌<◌, ◌≤◌, nat_eq, Bool, true, false, ◌&&◌, cond, List, [], ◌∷◌, ◌++◌, length, map, get_or, Option, Some, None, refl, sym, ap, subst, ◌∙◌, ⊎_elim, arith}
+use Rattle.std.proofs.Common.{◌≡◌, ◌≢◌, ℕ, zero, suc, ◌+◌, ◌<◌, ◌≤◌, nat_eq, Bool, true, false, ◌&&◌, cond, List, [], ◌∷◌, ◌++◌, length, length-drop, drop-cons, map, take, drop, get_or, append_assoc, ◌==◌, ◌-◌, Option, Some, None, refl, sym, ap, subst, ◌∙◌, ⊎_elim, zero-add, arith}
 use Rattle.std.specs.List.{AllByRecursion, count_by, sum_by}
 use Rattle.std.specs.List.Sorted.{IsPermutation, IsNonDecreasingBy}
 use Rattle.std.specs.Option.{option_or}
@@ -10,13 +10,15 @@ use Rattle.std.specs.Cmp.{nat_cmp_total, eq_by_cmp_equiv, Equal-is}
 use Rattle.std.specs.FinMap as fin
 use Rattle.std.specs.FinMap.Entries.{by_order}
 use Rattle.std.proofs.lemmas.Bool.{cases_eq}
+use Rattle.std.proofs.lemmas.List.{take-append-drop}
+use Rattle.std.proofs.Math.Seq.{take-length}
 use Rattle.std.proofs.lemmas.List.Sums.{sum_by-cons, sum_by-append}
 use Rattle.std.proofs.lemmas.List.Sorted.{sum_by-IsPermutation}
 use Rattle.hybrid_time.specs.declared.times.Timestamp.{Timestamp}
 use Rattle.binlog_format.specs.Fields.{InTurn}
 use Rattle.binlog_format.specs.Deletes.{IsMarkFrom, after_mark}
 use Rattle.seg_sealed.specs.Marks.{death_at, with_death, death_of, deaths_in, RowsRise, mark_of}
-use Rattle.seg_sealed.specs.Fields.{AreApart}
+use Rattle.seg_sealed.specs.Fields.{AreApart, KeepsMarks}
 
 abbrev pub Mark : Type 0
 Mark = ℕ × Timestamp
@@ -151,7 +153,7 @@ counted-hit : (row : ℕ) (mark : Mark) (marks : List Mark) → mark.0 ≡ row �
 counted-hit row mark marks e = counted-cons row mark marks ∙ ap (λ b. cond b 1 0 + counted row marks) (yes mark.0 row e)
 
 counted-miss : (row : ℕ) (mark : Mark) (marks : List Mark) → mark.0 ≢ row → counted row (mark ∷ marks) ≡ counted row marks
-counted-miss row mark marks ne = let a = counted-cons row mark marks in let b : cond (nat_eq mark.0 row) 1 0 ≡ 0 = ap (λ b. cond b 1 0) (off mark.0 row ne) in omega arith
+counted-miss row mark marks ne = counted-cons row mark marks ∙ ap (λ b. cond b 1 0 + counted row marks) (off mark.0 row ne) ∙ zero-add (counted row marks)
 
 some_none : (x : ℕ) → Some x ≡ None → ⊥
 some_none x e = cc
@@ -189,10 +191,7 @@ sum-hit row mark marks e = sum_by-cons (worth row) mark marks ∙ ap (λ b. cond
 
 sum-miss : (row : ℕ) (mark : Mark) (marks : List Mark) → mark.0 ≢ row → sum_by (worth row) (mark ∷ marks) ≡ sum_by (worth row) marks
 unfolding worth
-sum-miss row mark marks ne =
-    let a = sum_by-cons (worth row) mark marks in
-    let b : cond (nat_eq mark.0 row) (mark.1.0 + 1) 0 ≡ 0 = ap (λ b. cond b (mark.1.0 + 1) 0) (off mark.0 row ne) in
-    omega arith
+sum-miss row mark marks ne = sum_by-cons (worth row) mark marks ∙ ap (λ b. cond b (mark.1.0 + 1) 0 + sum_by (worth row) marks) (off mark.0 row ne) ∙ zero-add (sum_by (worth row) marks)
 
 no_worth : (row : ℕ) (marks : List Mark) → counted row marks ≡ 0 → sum_by (worth row) marks ≡ 0
 no_worth row [] none = refl
@@ -306,3 +305,47 @@ log_rises least (mark ∷ marks) turn = (above marks (from_least (mark.0 + 1) ma
 pub marks_back : (marks : List Mark) → map mark_of (map death_of marks) ≡ marks
 marks_back [] = refl
 marks_back (mark ∷ marks) = ap (λ xs. mark ∷ xs) (marks_back marks)
+
+-- marks cut in two, with the first mark of the second half
+pub cut : (marks before from : List Mark) (k : ℕ) (d : Mark) → before ≡ take k marks → from ≡ drop k marks → k < length marks → before ++ get_or from 0 d ∷ drop 1 from ≡ marks
+cut marks before from k d is are lt =
+    let some : 0 < length from = let a : length from ≡ length (drop k marks) = ap length are in let b = length-drop k marks in omega arith in
+    ap (λ xs. before ++ xs) (sym (drop-cons from 0 d some)) ∙ ap (λ xs. xs ++ from) is ∙ ap (λ xs. take k marks ++ xs) are ∙ take-append-drop k marks
+
+pub some_marks : (n : ℕ) → (n == 0) ≡ false → 0 < n
+some_marks zero e = absurd (true_false e)
+some_marks (suc n) e = omega arith
+
+pub part_whole : (xs : List Mark) → take (length xs - 1) (drop 1 xs) ≡ drop 1 xs
+part_whole [] = refl
+part_whole (x ∷ xs) = subst (λ n. take n xs ≡ xs) (let e : length xs ≡ length (x ∷ xs) - 1 = omega arith in e) (take-length xs)
+
+append_none : (xs : List Mark) → xs ++ [] ≡ xs
+append_none [] = refl
+append_none (x ∷ xs) = ap (λ ys. x ∷ ys) (append_none xs)
+
+-- sorted marks with none behind them
+pub keeps_sorted : (marks : List Mark) → RowsRise marks → KeepsMarks marks []
+keeps_sorted marks rise = record { rise = rise; apart = subst AreApart (sym (append_none marks)) (rise_apart marks rise) }
+
+pub deaths_sorted : (marks : List Mark) → RowsRise marks → deaths_in (marks ++ []) ≡ map death_of marks
+deaths_sorted marks rise = ap deaths_in (append_none marks) ∙ deaths_rise marks rise
+
+-- what a sort of all marks gives
+pub sorted_rise : (all sorted : List Mark) → IsPermutation all sorted → IsNonDecreasingBy (λ mark. mark.0) sorted → AreApart all → RowsRise sorted
+sorted_rise all sorted moved up apart = rise_sorted sorted up (apart_permuted all sorted moved apart)
+
+pub sorted_same : (all sorted : List Mark) → IsPermutation all sorted → IsNonDecreasingBy (λ mark. mark.0) sorted → AreApart all → map death_of sorted ≡ deaths_in all
+sorted_same all sorted moved up apart = sym (deaths_rise sorted (sorted_rise all sorted moved up apart)) ∙ deaths_permuted all sorted moved apart
+
+pub push_keeps : (frozen latest : List Mark) (mark : Mark) → KeepsMarks frozen latest → death_at mark.0 (deaths_in (frozen ++ latest)) ≡ None → KeepsMarks frozen (latest ++ mark ∷ [])
+push_keeps frozen latest mark kept none = record { rise = kept.rise; apart = subst AreApart (append_assoc frozen latest (mark ∷ [])) (apart_push (frozen ++ latest) mark kept.apart none) }
+
+pub push_deaths : (frozen latest : List Mark) (row ts : ℕ) → death_at row (deaths_in (frozen ++ latest)) ≡ None → deaths_in (frozen ++ (latest ++ (row, record { 0 = ts }) ∷ [])) ≡ with_death row ts (deaths_in (frozen ++ latest))
+push_deaths frozen latest row ts none = ap deaths_in (sym (append_assoc frozen latest ((row, record { 0 = ts }) ∷ []))) ∙ deaths_push (frozen ++ latest) row ts none
+
+pub found_frozen : (frozen latest : List Mark) (row ts : ℕ) → death_at row (map death_of frozen) ≡ Some ts → death_at row (deaths_in (frozen ++ latest)) ≡ Some ts
+found_frozen frozen latest row ts is = death_in row (frozen ++ latest) ∙ found_either row frozen latest ∙ ap (λ o. option_or o (death_at row (map death_of latest))) is
+
+pub found_latest : (frozen latest : List Mark) (row : ℕ) → death_at row (map death_of frozen) ≡ None → death_at row (deaths_in (frozen ++ latest)) ≡ death_at row (map death_of latest)
+found_latest frozen latest row none = death_in row (frozen ++ latest) ∙ found_either row frozen latest ∙ ap (λ o. option_or o (death_at row (map death_of latest))) none

@@ -1,9 +1,11 @@
 -- Vectors in a column of words.
-use Rattle.std.proofs.Common.{◌≡◌, ℕ, zero, suc, ◌+◌, ◌≤◌, Bool, List, [], ◌∷◌, ◌++◌, ◌<◌, ◌*◌, length, map, take, drop, slice_get, Some, None, length-append, length-drop, refl, sym, ap, subst, ◌∙◌, arith}
+use Rattle.std.proofs.Common.{◌≡◌, ℕ, zero, suc, ◌+◌, ◌≤◌, Bool, List, [], ◌∷◌, ◌++◌, ◌<◌, ◌*◌, ◌/◌, ◌%◌, get_or, append_assoc, length, map, take, drop, slice_get, Some, None, length-append, length-drop, refl, sym, ap, subst, ◌∙◌, arith}
 use Rattle.std.specs.List.{AllByRecursion}
-use Rattle.std.proofs.lemmas.List.{take-append-le, drop-append-le, drop-drop}
+use Rattle.std.proofs.lemmas.List.{take-append-le, drop-append-le, drop-drop, take_more}
 use Rattle.std.proofs.Math.Seq.{take-length, drop-length}
 use Rattle.std.proofs.Math.Nat.{zero-mul, suc-mul}
+use Rattle.std.specs.Int.{w64, to_le_bytes}
+use Rattle.row_types.proofs.BitLists.{bytes_in, bytes_in-push, bits-bytes_in, take-bits_in}
 use Rattle.row_types.specs.Bits.{bits_in, AreWordsOf}
 use Rattle.seg_sealed.specs.Segments.{IsColumn, width_of}
 use Rattle.seg_sealed.specs.Fields.{vectors_in}
@@ -60,3 +62,35 @@ column-at width (v ∷ vectors) words (suc i) vector is e =
     let rest : AreWordsOf vector (take width (drop (i * width) (drop width words))) = column-at width vectors (drop width words) i vector is.2 e in
     let there : width + i * width ≡ suc i * width = let a : suc i * width ≡ i * width + width = suc-mul i width in omega arith in
     subst (λ ws. AreWordsOf vector (take width ws)) (drop-drop (i * width) width words ∙ ap (λ n. drop n words) there) rest
+
+-- vectors that were taken out of a column, and how many stand in the rest of it
+pub record IsUnpacked (dim count : ℕ) (words : List ℕ) (vectors : List (List Bool)) (left : ℕ) (rest : List ℕ) : Type 0 where
+  pub same : vectors ++ vectors_in dim left rest ≡ vectors_in dim count words
+  pub long : left * width_of dim ≤ length rest
+
+pub unpacked_more : (dim count : ℕ) (words : List ℕ) (vectors : List (List Bool)) (left : ℕ) (rest : List ℕ) (vector : List Bool) → IsUnpacked dim count words vectors (suc left) rest → vector ≡ take dim (bits_in 64 (take (width_of dim) rest)) → IsUnpacked dim count words (vectors ++ vector ∷ []) left (drop (width_of dim) rest)
+unpacked_more dim count words vectors left rest vector is e = record {
+  same = append_assoc vectors (vector ∷ []) (vectors_in dim left (drop (width_of dim) rest)) ∙ ap (λ v. vectors ++ v ∷ vectors_in dim left (drop (width_of dim) rest)) e ∙ is.same;
+  long =
+    let a : suc left * width_of dim ≡ left * width_of dim + width_of dim = suc-mul left (width_of dim) in
+    let b = is.long in
+    let d = length-drop (width_of dim) rest in
+    omega arith;
+}
+
+pub unpacked_fits : (dim count : ℕ) (words : List ℕ) (vectors : List (List Bool)) (left : ℕ) (rest : List ℕ) → IsUnpacked dim count words vectors (suc left) rest → width_of dim ≤ length rest
+unpacked_fits dim count words vectors left rest is =
+    let a : suc left * width_of dim ≡ left * width_of dim + width_of dim = suc-mul left (width_of dim) in
+    let b = is.long in
+    omega arith
+
+-- the bytes of a vector's words
+pub bytes-more : (words : List ℕ) (i word : ℕ) (bytes : List ℕ) → i < length words → word ≡ get_or words i 0 → bytes ≡ bytes_in (take i words) → bytes ++ to_le_bytes w64 word ≡ bytes_in (take (i + 1) words)
+bytes-more words i word bytes lt e is =
+    ap (λ bs. bs ++ to_le_bytes w64 word) is ∙ sym (bytes_in-push (take i words) word)
+    ∙ ap bytes_in (ap (λ w. take i words ++ w ∷ []) e ∙ sym (take_more words i 0 lt))
+
+pub vector-bytes : (dim : ℕ) (words : List ℕ) → dim % 8 ≡ 0 → bits_in 8 (take (dim / 8) (bytes_in words)) ≡ take dim (bits_in 64 words)
+vector-bytes dim words whole =
+    let n : 8 * (dim / 8) ≡ dim = omega arith in
+    sym (take-bits_in 8 (dim / 8) (bytes_in words)) ∙ ap (λ k. take k (bits_in 8 (bytes_in words))) n ∙ ap (take dim) (sym (bits-bytes_in words))

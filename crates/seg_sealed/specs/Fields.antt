@@ -73,7 +73,7 @@ log_in number dim positions stamps keys words columns = record { segment = numbe
 pub record KeepsColumns (log : InsertLog) (words : List ℕ) (lists : Option ListFile) : Type 0 where
   pub sealed : IsSealed (with_lists (sealed_of log) lists)
   pub same : log_of (sealed_of log) ≡ log
-  pub words : IsColumn (width_of log.dim) log.vectors words
+  pub column : IsColumn (width_of log.dim) log.vectors words
 
 -- ---- marks
 

@@ -70,7 +70,8 @@ pub(crate) fn columns_of<T: TailRows>(
 {
     let mut columns = Vec::with_capacity(alloc, first.len())?;
     'columns: for at in 0..first.len() {
-        columns.push(column_at(alloc, from, at, kind_in(&first[at]))?)?;
+        let column = column_at(alloc, from, at, kind_in(&first[at]))?;
+        columns.push(column)?;
     }
     Ok(columns)
 }
@@ -106,7 +107,8 @@ fn ints_at<T: TailRows>(alloc: Global, from: &T, at: usize) -> Result<Vec<i64>, 
     let count = from.len();
     let mut ints = Vec::with_capacity(alloc, count as usize)?;
     'rows: for i in 0..count {
-        ints.push(int_in(from.row(i).row.get(), at))?;
+        let number = int_in(from.row(i).row.get(), at);
+        ints.push(number)?;
     }
     Ok(ints)
 }
@@ -117,7 +119,8 @@ fn bools_at<T: TailRows>(alloc: Global, from: &T, at: usize) -> Result<Vec<bool>
     let count = from.len();
     let mut bools = Vec::with_capacity(alloc, count as usize)?;
     'rows: for i in 0..count {
-        bools.push(bool_in(from.row(i).row.get(), at))?;
+        let truth = bool_in(from.row(i).row.get(), at);
+        bools.push(truth)?;
     }
     Ok(bools)
 }
@@ -128,7 +131,8 @@ fn texts_at<T: TailRows>(alloc: Global, from: &T, at: usize) -> Result<Vec<Text>
     let count = from.len();
     let mut texts = Vec::with_capacity(alloc, count as usize)?;
     'rows: for i in 0..count {
-        texts.push(text_in(alloc, from.row(i).row.get(), at)?)?;
+        let text = text_in(alloc, from.row(i).row.get(), at)?;
+        texts.push(text)?;
     }
     Ok(texts)
 }

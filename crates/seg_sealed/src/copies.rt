@@ -16,7 +16,8 @@ pub(crate) fn copy_columns(alloc: Global, columns: &[Column]) -> Result<Vec<Colu
 {
     let mut copies = Vec::with_capacity(alloc, columns.len())?;
     'columns: for column in columns {
-        copies.push(copy_column(alloc, column)?)?;
+        let copy = copy_column(alloc, column)?;
+        copies.push(copy)?;
     }
     Ok(copies)
 }
@@ -45,7 +46,8 @@ fn copy_texts(alloc: Global, texts: &[Text]) -> Result<Vec<Text>, Memory>
 {
     let mut copies = Vec::with_capacity(alloc, texts.len())?;
     'texts: for text in texts {
-        copies.push(text.copy(alloc)?)?;
+        let copy = text.copy(alloc)?;
+        copies.push(copy)?;
     }
     Ok(copies)
 }
@@ -81,7 +83,8 @@ pub(crate) fn unpack(
     let mut rest = words;
     'rows: for _ in 0..count {
         let (here, after) = rest.split_at(width);
-        vectors.push(vector_in(alloc, dim, here)?)?;
+        let vector = vector_in(alloc, dim, here)?;
+        vectors.push(vector)?;
         rest = after;
     }
     Ok(vectors)

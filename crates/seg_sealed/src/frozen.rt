@@ -79,8 +79,16 @@ fn find_sorted(marks: &[(u32, Timestamp)], row: u32) -> Option<Timestamp>
     requires { RowsRise marks.now }
     ensures { option_map (λ ts. ts.0) result ≡ death_at row (map death_of marks.now) }
 {
-    match marks.binary_search_by_key(&row, |mark| mark.0) {
-        Ok(at) => Some(marks[at].1),
-        Err(_) => None,
+    if marks.is_empty() {
+        return None;
     }
+    let (before, from) = marks.split_at(marks.len() / 2);
+    let mark = from[0];
+    if mark.0 == row {
+        return Some(mark.1);
+    }
+    if row < mark.0 {
+        return find_sorted(before, row);
+    }
+    find_sorted(&from[1..], row)
 }

@@ -1,15 +1,16 @@
 //! One row of columns.
 
-ghost use Rattle.std.specs.Prelude.{◌≡◌, List, Bool, take, map, length, pos, true, slice_index_or, [], IfOk};
+ghost use Rattle.std.specs.Prelude.{◌≡◌, ◌+◌, ◌*◌, ◌≤◌, take, drop, map, length, pos, true, false, slice_index_or, slice_get, [], IfOk};
 ghost use Rattle.row_types.specs.Bits.{bits_in, IsDimension};
 ghost use Rattle.row_types.specs.Filters.{value_at, field_cmp, meets, is_met, matches, is_among, passes, any_passes, all_pass};
 ghost use Rattle.seg_sealed.specs.Segments.{width_of};
-ghost use Rattle.seg_sealed.specs.Fields.{value_in, row_of};
+ghost use Rattle.seg_sealed.specs.Fields.{value_in};
 
 use binlog_format::Column;
 use row_types::{BitVector, CompareOp, Field, Filter, Key, Memory, Operand, Text};
 use std::alloc::Global;
 use std::cmp::Ordering;
+use std::marker::Model;
 
 /// The vector of this dimension of some words.
 pub(crate) fn vector_in(alloc: Global, dim: u32, words: &[u64]) -> Result<BitVector, Memory>
@@ -25,8 +26,33 @@ pub(crate) fn vector_in(alloc: Global, dim: u32, words: &[u64]) -> Result<BitVec
     BitVector::from_bytes(alloc, bytes.as_slice())
 }
 
+/// The words of the row at a place in a column of words.
+pub(crate) fn window(words: &[u64], width: usize, at: usize) -> &[u64]
+    requires { at * width + width ≤ length words.now }
+    ensures { result.now ≡ take width (drop (at * width) words.now) }
+{
+    let from = at * width;
+    &words[from..from + width]
+}
+
+/// The fields of a row of columns, each its own.
+pub(crate) fn fields_in(
+    alloc: Global,
+    columns: &[Column],
+    at: usize,
+) -> Result<Vec<Field>, Memory>
+    ensures { IfOk result (λ fields. fields.items ≡ map (value_in at) columns.now) }
+{
+    let mut fields = Vec::with_capacity(alloc, columns.len())?;
+    'columns: for column in columns {
+        let field = field_in(alloc, column, at)?;
+        fields.push(field)?;
+    }
+    Ok(fields)
+}
+
 /// A field of its own, equal to the value of a row in a column.
-pub(crate) fn field_in(alloc: Global, column: &Column, at: usize) -> Result<Field, Memory>
+fn field_in(alloc: Global, column: &Column, at: usize) -> Result<Field, Memory>
     ensures { IfOk result (λ field. field ≡ value_in at column.now) }
 {
     match column {
@@ -66,29 +92,45 @@ fn text_at(texts: &[Text], at: usize) -> &str
     }
 }
 
-/// Whether the row of this key and of these columns at a place passes a filter, whatever its vector.
+/// One row of columns, seen as the row with no vector.
+#[derive(Drop)]
+pub(crate) struct RowAt<'a> {
+    pub(crate) key: Key,
+    pub(crate) columns: &'a [Column],
+    pub(crate) at: usize,
+}
+
+impl<'a> Model for RowAt<'a> {
+    ghost use Rattle.std.specs.Prelude.{[], map};
+    ghost use Rattle.row_types.specs.declared.rows.Row.{Row};
+    ghost use Rattle.seg_sealed.specs.Fields.{value_in, row_of};
+
+    ghost Value = { Row };
+
+    ghost view = { λ r. row_of r.key [] (map (value_in r.at) r.columns.now) };
+}
+
+/// Whether a row passes a filter.
 #[cycle(row_holds)]
-pub(crate) fn row_holds(filter: &Filter, key: Key, columns: &[Column], at: usize) -> bool
-    ensures { (vector : List Bool) → result ≡ passes (row_of key vector (map (value_in at) columns.now)) filter.now }
+pub(crate) fn row_holds(filter: &Filter, row: &RowAt<'_>) -> bool
+    ensures { result ≡ passes row.now filter.now }
 {
     match filter {
-        Filter::Any(members) => any_holds(members.as_slice(), key, columns, at),
-        Filter::All(members) => all_hold(members.as_slice(), key, columns, at),
-        Filter::Not(inner) => !row_holds(inner.get(), key, columns, at),
-        Filter::Truth(operand) => {
-            compares(*operand, CompareOp::Equal, &Field::Bool(true), key, columns, at)
-        }
-        Filter::Compare { left, op, right } => compares(*left, *op, right, key, columns, at),
-        Filter::OneOf { left, choices } => is_one_of(*left, choices.as_slice(), key, columns, at),
+        Filter::Any(members) => any_holds(members.as_slice(), row),
+        Filter::All(members) => all_hold(members.as_slice(), row),
+        Filter::Not(inner) => !row_holds(inner.get(), row),
+        Filter::Truth(operand) => is_true(*operand, row),
+        Filter::Compare { left, op, right } => compares(*left, *op, right, row),
+        Filter::OneOf { left, choices } => is_one_of(*left, choices.as_slice(), row),
     }
 }
 
 #[cycle(row_holds)]
-fn any_holds(members: &[Filter], key: Key, columns: &[Column], at: usize) -> bool
-    ensures { (vector : List Bool) → result ≡ any_passes (row_of key vector (map (value_in at) columns.now)) members.now }
+fn any_holds(members: &[Filter], row: &RowAt<'_>) -> bool
+    ensures { result ≡ any_passes row.now members.now }
 {
     for member in members {
-        if row_holds(member, key, columns, at) {
+        if row_holds(member, row) {
             return true;
         }
     }
@@ -96,47 +138,53 @@ fn any_holds(members: &[Filter], key: Key, columns: &[Column], at: usize) -> boo
 }
 
 #[cycle(row_holds)]
-fn all_hold(members: &[Filter], key: Key, columns: &[Column], at: usize) -> bool
-    ensures { (vector : List Bool) → result ≡ all_pass (row_of key vector (map (value_in at) columns.now)) members.now }
+fn all_hold(members: &[Filter], row: &RowAt<'_>) -> bool
+    ensures { result ≡ all_pass row.now members.now }
 {
     for member in members {
-        if !row_holds(member, key, columns, at) {
+        if !row_holds(member, row) {
             return false;
         }
     }
     true
 }
 
-fn is_one_of(
-    left: Operand,
-    choices: &[Field],
-    key: Key,
-    columns: &[Column],
-    at: usize,
-) -> bool
-    ensures { (vector : List Bool) → result ≡ is_among choices.now (value_at (row_of key vector (map (value_in at) columns.now)) left) }
+fn is_true(operand: Operand, row: &RowAt<'_>) -> bool
+    ensures { result ≡ matches CompareOp.Equal (Field.Bool true) (value_at row.now operand) }
+{
+    compares(operand, CompareOp::Equal, &Field::Bool(true), row)
+}
+
+fn is_one_of(left: Operand, choices: &[Field], row: &RowAt<'_>) -> bool
+    ensures { result ≡ is_among choices.now (value_at row.now left) }
 {
     choices
         .iter()
-        .any(|choice| compares(left, CompareOp::Equal, choice, key, columns, at))
+        .any(|choice| compares(left, CompareOp::Equal, choice, row))
 }
 
-fn compares(
-    left: Operand,
-    op: CompareOp,
-    right: &Field,
-    key: Key,
-    columns: &[Column],
-    at: usize,
-) -> bool
-    ensures { (vector : List Bool) → result ≡ matches op right.now (value_at (row_of key vector (map (value_in at) columns.now)) left) }
+fn compares(left: Operand, op: CompareOp, right: &Field, row: &RowAt<'_>) -> bool
+    ensures { result ≡ matches op right.now (value_at row.now left) }
 {
     match left {
-        Operand::Key => is_allowed(op, Field::Int(key.0).order(right)),
-        Operand::Column(place) => match columns.get(place as usize) {
-            Some(column) => is_allowed(op, order(column, at, right)),
-            None => false,
-        },
+        Operand::Key => is_allowed(op, Field::Int(row.key.0).order(right)),
+        Operand::Column(place) => column_matches(row.columns, row.at, place, op, right),
+    }
+}
+
+/// Whether the value of a row in the column at a place meets an operator and a literal.
+fn column_matches(
+    columns: &[Column],
+    at: usize,
+    place: u32,
+    op: CompareOp,
+    right: &Field,
+) -> bool
+    ensures { result ≡ matches op right.now (slice_get (map (value_in at) columns.now) place) }
+{
+    match columns.get(place as usize) {
+        Some(column) => is_allowed(op, order(column, at, right)),
+        None => false,
     }
 }
 

@@ -10,7 +10,7 @@ ghost use Rattle.seg_sealed.specs.Fields.{sealed_of};
 
 use crate::columns::{columns_of, heads_of, positions_of, stamps_of};
 use crate::copies::{copy_columns, pack, unpack};
-use crate::rows::{field_in, row_holds, vector_in};
+use crate::rows::{RowAt, fields_in, row_holds, vector_in, window};
 use binlog_format::{Column, InsertLog, ListFile};
 use hybrid_time::Timestamp;
 use log_model::TailRows;
@@ -91,7 +91,14 @@ impl Sealed {
     /// themselves.
     pub fn to_log(&self, alloc: Global) -> Result<InsertLog, Memory>
         ensures log { IfOk result (λ log. log ≡ log_of self.now) }
-        ensures valid { IsInsertLog (log_of self.now) }
+        ensures valid { IfOk result (λ log. IsInsertLog log) }
+    {
+        let _number = self.number;
+        self.copied(alloc)
+    }
+
+    fn copied(&self, alloc: Global) -> Result<InsertLog, Memory>
+        ensures { IfOk result (λ log. log ≡ log_of self.now) }
     {
         let vectors = unpack(alloc, self.dim, self.positions.len(), self.words.as_slice())?;
         Ok(InsertLog {
@@ -181,9 +188,7 @@ impl Sealed {
         requires { i < length self.now.rows }
         ensures { IfSome (slice_get self.now.rows i) (λ x. AreWordsOf x.row.vector result.now) }
     {
-        let width = self.width();
-        let from = i as usize * width;
-        &self.words[from..from + width]
+        window(self.words.as_slice(), self.width(), i as usize)
     }
 
     /// A row of its own, equal to the one of this number.
@@ -192,12 +197,9 @@ impl Sealed {
         ensures { IfOk result (λ row. option_map (λ x. x.row) (slice_get self.now.rows i) ≡ Some row) }
     {
         let vector = self.vector(alloc, i)?;
-        let mut fields = Vec::with_capacity(alloc, self.columns.len())?;
-        'columns: for column in &self.columns {
-            fields.push(field_in(alloc, column, i as usize)?)?;
-        }
+        let fields = fields_in(alloc, self.columns.as_slice(), i as usize)?;
         Ok(Row {
-            key: self.keys[i as usize],
+            key: self.key(i),
             vector,
             fields: List::of(fields),
         })
@@ -208,7 +210,12 @@ impl Sealed {
         requires { i < length self.now.rows }
         ensures { IfSome (slice_get self.now.rows i) (λ x. result ≡ passes x.row filter.now) }
     {
-        row_holds(filter, self.keys[i as usize], self.columns.as_slice(), i as usize)
+        let row = RowAt {
+            key: self.key(i),
+            columns: self.columns.as_slice(),
+            at: i as usize,
+        };
+        row_holds(filter, &row)
     }
 
     /// The positions in order.
