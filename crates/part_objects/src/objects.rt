@@ -1,13 +1,14 @@
 //! The objects of a part.
 
-ghost use Rattle.std.specs.Prelude.{◌≡◌, ◌<◌, ◌^◌, Some, IfOk};
+ghost use Rattle.std.specs.Prelude.{◌≡◌, ◌<◌, ◌^◌, length, Some, IfOk};
 ghost use Rattle.std.specs.Option.{option_map, IfSome};
 ghost use Rattle.binlog_format.specs.declared.objects.ListFile.{ListFile};
 ghost use Rattle.binlog_format.specs.Lists.{SpellsLists};
 ghost use Rattle.binlog_format.specs.Inserts.{SpellsInserts};
 ghost use Rattle.binlog_format.specs.Deletes.{SpellsDeletes};
-ghost use Rattle.seg_sealed.specs.Segments.{IsSealed, log_of};
+ghost use Rattle.seg_sealed.specs.Segments.{IsSealed, AreListsOf, log_of};
 ghost use Rattle.seg_sealed.specs.Marks.{delete_log_of};
+ghost use Rattle.seg_sealed.specs.Parts.{AreDeathsOf};
 ghost use Rattle.part_objects.specs.Spellings.{insert_object, delete_object, list_object};
 
 use crate::names::{ObjectKind, name_of};
@@ -45,6 +46,7 @@ pub fn delete_object(alloc: Global, part: &Part) -> Result<Object, Memory>
     ensures object { IfOk result (λ object. object ≡ delete_object part.now) }
     ensures fits { IfOk result (λ object. object.name < 2 ^ 63) }
     ensures spells { IfOk result (λ object. SpellsDeletes object.bytes (delete_log_of part.now.sealed.number part.now.applied part.now.deaths)) }
+    ensures deaths { AreDeathsOf (length part.now.sealed.rows) part.now.deaths }
 {
     let number = part.sealed().number();
     let log = part.marks().to_log(alloc, number)?;
@@ -60,6 +62,7 @@ pub fn list_object(alloc: Global, part: &Part) -> Result<Option<Object>, Memory>
     ensures object { IfOk result (λ object. object ≡ option_map (list_object part.now.sealed.number) part.now.sealed.lists) }
     ensures fits { IfOk result (λ object. IfSome object (λ x. x.name < 2 ^ 63)) }
     ensures spells { (file : ListFile) → part.now.sealed.lists ≡ Some file → IfOk result (λ object. IfSome object (λ x. SpellsLists x.bytes file)) }
+    ensures lists { IfSome part.now.sealed.lists (AreListsOf part.now.sealed.number (length part.now.sealed.rows)) }
 {
     let sealed = part.sealed();
     let Some(file) = sealed.lists() else {
