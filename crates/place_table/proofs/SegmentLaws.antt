@@ -1,7 +1,7 @@
 -- The finite map that the entries of a tree are seen as.
 use Rattle.std.proofs.Common.{◌≡◌, ℕ, Bool, true, false, cond, List, [], ◌∷◌, Option, Some, None, refl, sym, ap, ◌∙◌}
 use Rattle.std.specs.Ordering.{nat_cmp, is_eq}
-use Rattle.std.specs.Cmp.{nat_cmp_total, eq_by_cmp_equiv}
+use Rattle.std.specs.Cmp.{nat_cmp_total, eq_by_cmp_equiv, Equal-is}
 use Rattle.std.specs.FinMap as fin
 use Rattle.std.specs.Map.{lookup}
 use Rattle.place_table.specs.Tables.{Placement}
@@ -27,3 +27,19 @@ was_removed es fs k f = fin.same_map nat_cmp_total fin.nat_cmp-IsAntisymmetric _
 
 pub was_same : (es fs : List (ℕ × Placement)) → ((q : ℕ) → lookup (λ j. is_eq (nat_cmp q j)) fs ≡ lookup (λ j. is_eq (nat_cmp q j)) es) → fin.from_entries {R = nat_cmp} fs ≡ fin.from_entries {R = nat_cmp} es
 was_same es fs f = fin.same_map nat_cmp_total fin.nat_cmp-IsAntisymmetric _ _ (λ q. found fs q ∙ f q ∙ sym (found es q))
+
+true_if : (m : fin.FinMap nat_cmp Placement) (k q : ℕ) (p : Placement) (b : Bool) → fin.get m k ≡ Some p → is_eq (nat_cmp q k) ≡ b → cond b (Some p) (fin.get m q) ≡ fin.get m q
+true_if m k q p true is e = sym (ap (fin.get m) (fin.nat_cmp-IsAntisymmetric q k ((Equal-is (nat_cmp q k)).0 e)) ∙ is)
+true_if m k q p false is e = refl
+
+-- an entry that is put where it stands
+pub stays : (m : fin.FinMap nat_cmp Placement) (k : ℕ) (p : Placement) → fin.get m k ≡ Some p → fin.insert m k p ≡ m
+stays m k p is = fin.same_map nat_cmp_total fin.nat_cmp-IsAntisymmetric _ _ (λ q. fin.get-insert nat_cmp_total m k p q ∙ true_if m k q p (is_eq (nat_cmp q k)) is refl)
+
+none_if : (m : fin.FinMap nat_cmp Placement) (k q : ℕ) (b : Bool) → fin.get m k ≡ None → is_eq (nat_cmp q k) ≡ b → cond b None (fin.get m q) ≡ fin.get m q
+none_if m k q true is e = sym (ap (fin.get m) (fin.nat_cmp-IsAntisymmetric q k ((Equal-is (nat_cmp q k)).0 e)) ∙ is)
+none_if m k q false is e = refl
+
+-- taking away what is not there
+pub absent : (m : fin.FinMap nat_cmp Placement) (k : ℕ) → fin.get m k ≡ None → fin.remove m k ≡ m
+absent m k is = fin.same_map nat_cmp_total fin.nat_cmp-IsAntisymmetric _ _ (λ q. fin.get-remove nat_cmp_total m k q ∙ none_if m k q (is_eq (nat_cmp q k)) is refl)

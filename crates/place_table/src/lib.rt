@@ -10,6 +10,8 @@ mod placements;
 mod places;
 mod refusals;
 mod segments;
+#[cfg(test)]
+mod tests;
 
 pub use crate::places::Places;
 pub use crate::refusals::PlaceError;

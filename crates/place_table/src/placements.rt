@@ -86,6 +86,7 @@ impl Entry {
         ensures free { OnOk result (load_refused segment node (Some self.old) ≡ None) }
         ensures err { OnErr result (self.new ≡ self.old) }
         ensures cause { IfErr result (λ e. (e ≡ PlaceError.Memory) ⊎ (load_refused segment node (Some self.old) ≡ Some e)) }
+        ensures refused { IfSome (load_refused segment node (Some self.old)) (λ e. result ≡ Err e) }
     {
         if self.is_on(node) {
             return Err(PlaceError::Already { segment, node });

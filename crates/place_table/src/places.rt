@@ -1,7 +1,7 @@
 //! The table of places.
 
-ghost use Rattle.std.specs.Prelude.{◌≡◌, ℕ, ◌-◌, ◌<◌, ◌≤◌, ◌⊎◌, length, None, Some, OnOk, OnErr, IfOk, IfErr, slice_index};
-ghost use Rattle.std.specs.Option.{IfSome, option_map};
+ghost use Rattle.std.specs.Prelude.{◌≡◌, ℕ, ◌+◌, ◌-◌, ◌^◌, ◌<◌, ◌≤◌, ◌⊎◌, length, None, Some, OnOk, OnErr, IfOk, IfErr, slice_index, slice_set};
+ghost use Rattle.std.specs.Option.{IfSome, is_some, option_map};
 ghost use Rattle.std.specs.FinMap as fin;
 ghost use Rattle.place_table.specs.Tables.{no_segments, with_added, with_load, with_release, without, load_refusal, release_refusal, answer_of, rows_if, is_on, IsChosen};
 
@@ -51,6 +51,21 @@ impl Places {
         })
     }
 
+    /// How many nodes there are, 1 to 16.
+    pub fn nodes(&self) -> u32
+        ensures nodes { result ≡ self.now.nodes }
+        ensures some { 1 ≤ result }
+    {
+        self.loads.len() as u32
+    }
+
+    /// Whether a segment is known.
+    pub fn is_known(&self, segment: u64) -> bool
+        ensures { result ≡ is_some (fin.get self.now.segments segment) }
+    {
+        self.segments.find(segment).is_some()
+    }
+
     /// Where a segment stands: at its leader, or on nodes; `None` where it is not known.
     pub fn homes(&self, segment: u64) -> Option<&[Home]>
         ensures homes { option_map (λ homes. homes.now) result ≡ option_map (λ p. p.homes) (fin.get self.now.segments segment) }
@@ -89,7 +104,7 @@ impl Places {
         ensures refused { IfSome (load_refusal self.old segment node) (λ e. result ≡ Err e) }
     {
         let rows = self.segments.load(segment, node)?;
-        self.loads[node as usize] += u64::from(rows);
+        raise(&mut self.loads, node, rows);
         Ok(())
     }
 
@@ -103,7 +118,7 @@ impl Places {
         ensures answer { result ≡ answer_of (release_refusal self.old segment node) }
     {
         let rows = self.segments.release(segment, node)?;
-        self.loads[node as usize] -= u64::from(rows);
+        lower(&mut self.loads, node, rows);
         Ok(())
     }
 
@@ -113,7 +128,7 @@ impl Places {
     {
         if let Some(entry) = self.segments.remove(segment) {
             self.total -= u64::from(entry.rows());
-            unload(self.loads.as_mut_slice(), &entry);
+            unload(&mut self.loads, &entry);
         }
     }
 
@@ -125,15 +140,36 @@ impl Places {
     }
 }
 
+/// Adds rows to those of a node.
+fn raise(loads: &mut Vec<u64>, node: u32, rows: u32)
+    requires there { node < length loads.old.items }
+    requires fits { slice_index loads.old.items node + rows < 2 ^ 64 }
+    ensures { loads.new.items ≡ slice_set loads.old.items node (slice_index loads.old.items node + rows) }
+{
+    let held = loads[node as usize];
+    loads[node as usize] = held + u64::from(rows);
+}
+
+/// Takes rows from those of a node.
+fn lower(loads: &mut Vec<u64>, node: u32, rows: u32)
+    requires there { node < length loads.old.items }
+    requires enough { rows ≤ slice_index loads.old.items node }
+    ensures { loads.new.items ≡ slice_set loads.old.items node (slice_index loads.old.items node - rows) }
+{
+    let held = loads[node as usize];
+    loads[node as usize] = held - u64::from(rows);
+}
+
 /// Takes the rows of a segment from the nodes that have it.
-fn unload(loads: &mut [u64], entry: &Entry)
-    requires few { length loads.old ≤ 16 }
-    requires enough { (node : ℕ) → node < length loads.old → rows_if (is_on node entry.now) entry.now.rows ≤ slice_index loads.old node }
-    ensures { (node : ℕ) → node < length loads.old → slice_index loads.new node ≡ slice_index loads.old node - rows_if (is_on node entry.now) entry.now.rows }
+fn unload(loads: &mut Vec<u64>, entry: &Entry)
+    requires few { length loads.old.items ≤ 16 }
+    requires enough { (node : ℕ) → node < length loads.old.items → rows_if (is_on node entry.now) entry.now.rows ≤ slice_index loads.old.items node }
+    ensures left { (node : ℕ) → node < length loads.old.items → slice_index loads.new.items node ≡ slice_index loads.old.items node - rows_if (is_on node entry.now) entry.now.rows }
+    ensures len { length loads.new.items ≡ length loads.old.items }
 {
     'nodes: for node in 0..loads.len() {
         if entry.is_on(node as u32) {
-            loads[node] -= u64::from(entry.rows());
+            lower(loads, node as u32, entry.rows());
         }
     }
 }

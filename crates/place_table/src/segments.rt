@@ -1,6 +1,6 @@
 //! The segments that are known, by number.
 
-ghost use Rattle.std.specs.Prelude.{◌≡◌, OnOk, OnErr, IfOk, IfErr, ◌⊎◌, None, Some};
+ghost use Rattle.std.specs.Prelude.{◌≡◌, OnOk, OnErr, IfOk, IfErr, IfSome, ◌⊎◌, None, Some};
 ghost use Rattle.std.specs.Option.{option_copied, option_map};
 ghost use Rattle.std.specs.FinMap as fin;
 ghost use Rattle.journal_model.specs.Layouts.{loaded, released};
@@ -74,6 +74,7 @@ impl Segments {
         ensures free { OnOk result (load_refused segment node (fin.get self.old segment) ≡ None) }
         ensures err { OnErr result (self.new ≡ self.old) }
         ensures cause { IfErr result (λ e. (e ≡ PlaceError.Memory) ⊎ (load_refused segment node (fin.get self.old segment) ≡ Some e)) }
+        ensures refused { IfSome (load_refused segment node (fin.get self.old segment)) (λ e. result ≡ Err e) }
     {
         let Some(entry) = self.by_number.get_mut(&segment) else {
             return Err(PlaceError::Gone { segment });

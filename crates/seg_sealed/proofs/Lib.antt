@@ -1,2 +1,4 @@
 pub mod ColumnLaws
 pub mod LogLaws
+pub mod WordLaws
+pub mod MarkLaws

@@ -1,6 +1,6 @@
 -- How the fields of the types are seen, and what they keep; only proofs need it.
-use Rattle.std.specs.Prelude.{◌≡◌, ◌≢◌, ℕ, zero, suc, ℤ, pos, slice_index_or, Bool, false, List, [], ◌∷◌, ◌++◌, length, map, take, drop, Option, None, refl}
-use Rattle.std.specs.List.{AllByRecursion}
+use Rattle.std.specs.Prelude.{◌≡◌, ◌≤◌, nat_eq, ℕ, zero, suc, ℤ, pos, slice_index_or, Bool, false, List, [], ◌∷◌, ◌++◌, length, map, take, drop, Option, None, refl}
+use Rattle.std.specs.List.{count_by}
 use Rattle.hybrid_time.specs.declared.times.Timestamp.{Timestamp}
 use Rattle.row_types.specs.declared.rows.Key.{Key}
 use Rattle.row_types.specs.declared.rows.Kind.{Kind}
@@ -78,9 +78,8 @@ pub record KeepsColumns (log : InsertLog) (words : List ℕ) (lists : Option Lis
 -- ---- marks
 
 -- no two marks of one row
-abbrev pub AreApart : List (ℕ × Timestamp) → Type 0
-AreApart [] = Unit {0}
-AreApart (mark ∷ marks) = AllByRecursion (λ later. mark.0 ≢ later.0) marks × AreApart marks
+unfoldable pub AreApart : List (ℕ × Timestamp) → Type 0
+AreApart marks = (row : ℕ) → count_by (λ mark. nat_eq mark.0 row) marks ≤ 1
 
 pub record KeepsMarks (frozen latest : List (ℕ × Timestamp)) : Type 0 where
   pub rise : RowsRise frozen
