@@ -70,8 +70,14 @@ left_more x xs ys (Some k) (Some l) (Some m) h g =
 stores_more : (x : Object) (xs : List Object) (k l m : Option Objects) (r : Result (Unit {0}) FlushError) → Puts (x ∷ []) k l → Stores xs l m r → Stores (x ∷ xs) k m r
 stores_more x xs k l m (Ok done) h g = puts_more x xs k l m h g
 stores_more x xs k l m (Err (KeepFault name)) h g =
-    record { before = x ∷ g.before; failed = g.failed; after = g.after; split = ap (λ (ys : List Object). x ∷ ys) g.split; named = g.named;
-      left = left_more x g.before (g.before ++ g.failed ∷ []) k l m h g.left }
+    record {
+      before = x ∷ g.before;
+      failed = g.failed;
+      after = g.after;
+      split = ap (λ (ys : List Object). x ∷ ys) g.split;
+      named = g.named;
+      left = left_more x g.before (g.before ++ g.failed ∷ []) k l m h g.left;
+    }
 stores_more x xs k l m (Err Memory) h g =
     record { before = x ∷ g.before; after = g.after; split = ap (λ (ys : List Object). x ∷ ys) g.split; left = puts_more x g.before k l m h g.left }
 

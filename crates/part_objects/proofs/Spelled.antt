@@ -83,7 +83,7 @@ pub delete_spelled : (part : SegmentPart) (number applied : ℕ) (deaths : List 
     → log ≡ delete_log_of number applied deaths → items ≡ bytes → SpellsDeletes bytes log → SpellsDeletes items (delete_log_of part.sealed.number part.applied part.deaths)
 delete_spelled part number applied deaths log bytes items n a d e f s =
     let same : log ≡ delete_log_of part.sealed.number part.applied part.deaths
-            = e ∙ ap (λ (k : ℕ). delete_log_of k applied deaths) n ∙ ap (λ (k : ℕ). delete_log_of part.sealed.number k deaths) a ∙ ap (delete_log_of part.sealed.number part.applied) d in
+    = e ∙ ap (λ (k : ℕ). delete_log_of k applied deaths) n ∙ ap (λ (k : ℕ). delete_log_of part.sealed.number k deaths) a ∙ ap (delete_log_of part.sealed.number part.applied) d in
     subst (λ (x : List ℕ). SpellsDeletes x (delete_log_of part.sealed.number part.applied part.deaths)) (sym f) (subst (λ (l : DeleteLog). SpellsDeletes bytes l) same s)
 
 pub delete_made : (part : SegmentPart) (name : ℕ) (items : List ℕ) → name ≡ name_of part.sealed.number kind.DeleteLog → SpellsDeletes items (delete_log_of part.sealed.number part.applied part.deaths)

@@ -87,11 +87,21 @@ module _ {T : Type 0} (x : Object) (xs : List Object) (g h : Given) (apart : IsO
   answers_more (Ok value) a = (intact, holds_same g h x.name same xs apart a)
   answers_more (Err (KeepFault name)) a = record { object = a.object; reached = inr (intact, reached_same g h x.name same xs a.object apart a.reached); named = a.named }
   answers_more (Err (Lost name)) a =
-      record { object = a.object; reached = inr (intact, reached_same g h x.name same xs a.object apart a.reached); named = a.named;
-        nothing = same name (name_other xs h a.object x.name name apart a.reached a.named) ∙ a.nothing }
+      record {
+        object = a.object;
+        reached = inr (intact, reached_same g h x.name same xs a.object apart a.reached);
+        named = a.named;
+        nothing = same name (name_other xs h a.object x.name name apart a.reached a.named) ∙ a.nothing;
+      }
   answers_more (Err (Damaged name at want got)) a =
-      record { object = a.object; reached = inr (intact, reached_same g h x.name same xs a.object apart a.reached); named = a.named; bytes = a.bytes;
-        found = same name (name_other xs h a.object x.name name apart a.reached a.named) ∙ a.found; first = a.first }
+      record {
+        object = a.object;
+        reached = inr (intact, reached_same g h x.name same xs a.object apart a.reached);
+        named = a.named;
+        bytes = a.bytes;
+        found = same name (name_other xs h a.object x.name name apart a.reached a.named) ∙ a.found;
+        first = a.first;
+      }
   answers_more (Err Memory) a = tt
 
 -- the first was got as it is spelled, and the others were asked for behind it

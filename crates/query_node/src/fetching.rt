@@ -88,11 +88,7 @@ fn joined(alloc: Global, sealed: Sealed, marks: Marks) -> Result<Part, Memory>
     Ok(Part::new(sealed, marks))
 }
 
-fn fetch_sealed<K: Keeper>(
-    alloc: Global,
-    part: &Part,
-    keeper: &mut K,
-) -> Result<Sealed, FetchError>
+fn fetch_sealed<K: Keeper>(alloc: Global, part: &Part, keeper: &mut K) -> Result<Sealed, FetchError>
     ensures sealed { IfOk result (λ sealed. sealed ≡ with_lists part.now.sealed None) }
     ensures fetched { Fetches (insert_object part.now ∷ []) (K.kept keeper.old) result }
     ensures stays { Stays (K.kept keeper.old) (K.kept keeper.new) }

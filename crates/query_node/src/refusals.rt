@@ -9,9 +9,13 @@ use row_types::Memory;
 #[derive(Clone, Copy, Debug, PartialEq, Eq)]
 pub enum FetchError {
     /// The keeper failed to get the object.
-    KeepFault { object: u64 },
+    KeepFault {
+        object: u64,
+    },
     /// Nothing is kept under the name.
-    Lost { object: u64 },
+    Lost {
+        object: u64,
+    },
     /// Other bytes were got than those that spell the object. They differ first at `at`, where `want`
     /// was to stand and `got` stands; `None` is past an end.
     Damaged {
