@@ -98,9 +98,9 @@ load_keeps loads sum m segment node rows kept below free is =
     let changed : Placement = with_homes (loaded node) p in
     let n : fin.FinMap nat_cmp Placement = fin.insert m segment changed in
     let others : (k : ℕ) → k ≢ node → rows_on k n ≡ rows_on k m = λ k ne.
-      let a = total-replaced (counts k) m segment p changed x.is in
-      let b : counts k changed ≡ counts k p = ap (λ b. rows_if b p.rows) (has-loaded k node p.homes ∙ ap (λ b. is_on k p || b) (differ k node ne) ∙ or_false (is_on k p)) in
-      omega arith in
+    let a = total-replaced (counts k) m segment p changed x.is in
+    let b : counts k changed ≡ counts k p = ap (λ b. rows_if b p.rows) (has-loaded k node p.homes ∙ ap (λ b. is_on k p || b) (differ k node ne) ∙ or_false (is_on k p)) in
+    omega arith in
     let done : IsKept (set loads node (get_or loads node 0 + rows)) sum n = record {
       some = omega (arith, length-set loads node (get_or loads node 0 + rows), kept.some);
       few = omega (arith, length-set loads node (get_or loads node 0 + rows), kept.few);
@@ -168,15 +168,15 @@ release_keeps loads sum m segment node rows kept below free is =
     let changed : Placement = with_homes (released node) p in
     let n : fin.FinMap nat_cmp Placement = fin.insert m segment changed in
     let others : (k : ℕ) → k ≢ node → rows_on k n ≡ rows_on k m = λ k ne.
-      let a = total-replaced (counts k) m segment p changed x.is in
-      let b : counts k changed ≡ counts k p = ap (λ b. rows_if b p.rows) (others-released k node p.homes ne) in
-      omega arith in
+    let a = total-replaced (counts k) m segment p changed x.is in
+    let b : counts k changed ≡ counts k p = ap (λ b. rows_if b p.rows) (others-released k node p.homes ne) in
+    omega arith in
     let left : get_or loads node 0 - rows ≡ rows_on node n =
-      let a = total-replaced (counts node) m segment p changed x.is in
-      let b : counts node changed ≡ 0 = ap (λ b. rows_if b p.rows) (has-released node p.homes) in
-      let d : counts node p ≡ rows = ap (λ b. rows_if b p.rows) x.on ∙ x.rows_are in
-      let e = kept.counted node below in
-      omega arith in
+    let a = total-replaced (counts node) m segment p changed x.is in
+    let b : counts node changed ≡ 0 = ap (λ b. rows_if b p.rows) (has-released node p.homes) in
+    let d : counts node p ≡ rows = ap (λ b. rows_if b p.rows) x.on ∙ x.rows_are in
+    let e = kept.counted node below in
+    omega arith in
     let done : IsKept (set loads node (get_or loads node 0 - rows)) sum n = record {
       some = omega (arith, length-set loads node (get_or loads node 0 - rows), kept.some);
       few = omega (arith, length-set loads node (get_or loads node 0 - rows), kept.few);
@@ -201,11 +201,11 @@ drop_keeps loads now sum m segment p kept is long after = record {
   some = omega (arith, kept.some);
   few = omega (arith, kept.few);
   counted = λ node below.
-    let inside : node < length loads = omega arith in
-    let a = total-removed (counts node) m segment p is in
-    let b = kept.counted node inside in
-    let d = after node inside in
-    omega arith;
+      let inside : node < length loads = omega arith in
+      let a = total-removed (counts node) m segment p is in
+      let b = kept.counted node inside in
+      let d = after node inside in
+      omega arith;
   total_is = let a = total-removed (λ p. p.rows) m segment p is in let b = kept.total_is in omega arith;
   fits = let a = kept.fits in omega arith;
   placed = λ k. subst (λ o. IfSome o IsPlaced) (sym (fin.get-remove nat_cmp_total m segment k)) (placed_if (eq_by_cmp nat_cmp k segment) (fin.get m k) (kept.placed k));

@@ -169,7 +169,14 @@ fn the_last_place_stays(rt: HostRuntime) -> Result<(), Memory> {
     assert_eq!(&rt; places.load(0, 0), Ok(()));
     let refusals = [
         (0, 0, PlaceError::LastPlace { segment: 0 }),
-        (0, 1, PlaceError::NotThere { segment: 0, node: 1 }),
+        (
+            0,
+            1,
+            PlaceError::NotThere {
+                segment: 0,
+                node: 1,
+            },
+        ),
         (16, 0, PlaceError::Gone { segment: 16 }),
     ];
     for (segment, node, refusal) in refusals {

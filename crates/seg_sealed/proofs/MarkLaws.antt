@@ -205,16 +205,16 @@ unfolding told
 worth_is row [] few = refl
 worth_is row (mark ∷ marks) few =
     let hit : mark.0 ≡ row → sum_by (worth row) (mark ∷ marks) ≡ told (death_at row (map death_of (mark ∷ marks))) = λ e.
-      let a = counted-hit row mark marks e in
-      let b : counted row marks ≡ 0 = omega arith in
-      let d = no_worth row marks b in
-      let f = sum-hit row mark marks e in
-      let g : told (death_at row (map death_of (mark ∷ marks))) ≡ mark.1.0 + 1 = ap told (found_first row mark marks e) in
-      omega arith in
+    let a = counted-hit row mark marks e in
+    let b : counted row marks ≡ 0 = omega arith in
+    let d = no_worth row marks b in
+    let f = sum-hit row mark marks e in
+    let g : told (death_at row (map death_of (mark ∷ marks))) ≡ mark.1.0 + 1 = ap told (found_first row mark marks e) in
+    omega arith in
     let miss : mark.0 ≢ row → sum_by (worth row) (mark ∷ marks) ≡ told (death_at row (map death_of (mark ∷ marks))) = λ ne.
-      let a = tail_counted row mark marks in
-      let b : counted row marks ≤ 1 = omega arith in
-      sum-miss row mark marks ne ∙ worth_is row marks b ∙ sym (ap told (passed_first row mark marks ne)) in
+    let a = tail_counted row mark marks in
+    let b : counted row marks ≤ 1 = omega arith in
+    sum-miss row mark marks ne ∙ worth_is row marks b ∙ sym (ap told (passed_first row mark marks ne)) in
     ⊎_elim hit miss (cases_eq mark.0 row)
 
 pub apart_permuted : (xs ys : List Mark) → IsPermutation xs ys → AreApart xs → AreApart ys
@@ -232,9 +232,9 @@ apart_of marks few = few
 pub deaths_permuted : (xs ys : List Mark) → IsPermutation xs ys → AreApart xs → deaths_in ys ≡ deaths_in xs
 deaths_permuted xs ys moved apart =
     let same : (row : ℕ) → death_at row (map death_of ys) ≡ death_at row (map death_of xs) = λ row.
-      told_same _ _ (sym (worth_is row ys (few_of ys (apart_permuted xs ys moved apart) row)) ∙ sum_by-IsPermutation (worth row) xs ys moved ∙ worth_is row xs (few_of xs apart row)) in
+    told_same _ _ (sym (worth_is row ys (few_of ys (apart_permuted xs ys moved apart) row)) ∙ sum_by-IsPermutation (worth row) xs ys moved ∙ worth_is row xs (few_of xs apart row)) in
     ap fin.entries (fin.same_map nat_cmp_total fin.nat_cmp-IsAntisymmetric (fin.from_entries (map death_of ys)) (fin.from_entries (map death_of xs)) (λ row.
-      fin.get-from_entries nat_cmp_total (map death_of ys) row ∙ same row ∙ sym (fin.get-from_entries nat_cmp_total (map death_of xs) row)))
+    fin.get-from_entries nat_cmp_total (map death_of ys) row ∙ same row ∙ sym (fin.get-from_entries nat_cmp_total (map death_of xs) row)))
 
 -- ---- rising rows
 
@@ -277,9 +277,9 @@ apart_push marks mark apart none = apart_of (marks ++ mark ∷ []) (λ row.
     let b = few_of marks apart row in
     let d = counted-none row in
     let hit : mark.0 ≡ row → counted row (marks ++ mark ∷ []) ≤ 1 = λ e.
-      let f = counted-hit row mark [] e in
-      let g : counted row marks ≡ 0 = none_counted row marks (subst (λ k. death_at k (map death_of marks) ≡ None) e (sym (death_in mark.0 marks) ∙ none)) in
-      omega arith in
+    let f = counted-hit row mark [] e in
+    let g : counted row marks ≡ 0 = none_counted row marks (subst (λ k. death_at k (map death_of marks) ≡ None) e (sym (death_in mark.0 marks) ∙ none)) in
+    omega arith in
     let miss : mark.0 ≢ row → counted row (marks ++ mark ∷ []) ≤ 1 = λ ne. let f = counted-miss row mark [] ne in omega arith in
     ⊎_elim hit miss (cases_eq mark.0 row))
 

@@ -154,7 +154,7 @@ pub log_same : (log : InsertLog) (words : List ℕ) → IsInsertLog log → IsCo
     → positions ≡ log.positions → stamps ≡ log.stamps → keys ≡ log.keys → columns ≡ log.columns → log_in log.segment log.dim positions stamps keys words columns ≡ log
 log_same log words is w positions stamps keys columns p t k f i =
     let vectors : vectors_in log.dim (length positions) words ≡ log.vectors =
-      ap (λ ps. vectors_in log.dim (length ps) words) p ∙ ap (λ n. vectors_in log.dim n words) (sym is.a_vector_each) ∙ vectors_are log.dim log.vectors words is.vectors w in
+    ap (λ ps. vectors_in log.dim (length ps) words) p ∙ ap (λ n. vectors_in log.dim n words) (sym is.a_vector_each) ∙ vectors_are log.dim log.vectors words is.vectors w in
     record { segment = log.segment; dim = log.dim; positions = p i; stamps = t i; keys = k i; vectors = vectors i; columns = f i }
 
 none_of : {A : Type 0} (x : A) → None ≡ Some x → ⊥

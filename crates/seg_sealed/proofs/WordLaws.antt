@@ -31,10 +31,11 @@ pub column-push : (width : ℕ) (vectors : List (List Bool)) (words : List ℕ) 
 column-push width [] words vector more is own long =
     let last : IsColumn width (vector ∷ []) more = (omega arith, subst (λ ws. AreWordsOf vector ws) (sym (subst (λ n. take n more ≡ more) long (take-length more))) own, subst (λ n. drop n more ≡ []) long (drop-length more)) in
     subst (λ ws. IsColumn width (vector ∷ []) (ws ++ more)) (sym is) last
-column-push width (v ∷ vectors) words vector more is own long =
-    (omega (arith, length-append words more, is.0),
-     subst (λ ws. AreWordsOf v ws) (sym (take-append-le width words more is.0)) is.1,
-     subst (λ ws. IsColumn width (vectors ++ vector ∷ []) ws) (sym (drop-append-le width words more is.0)) (column-push width vectors (drop width words) vector more is.2 own long))
+column-push width (v ∷ vectors) words vector more is own long = (
+  omega (arith, length-append words more, is.0),
+  subst (λ ws. AreWordsOf v ws) (sym (take-append-le width words more is.0)) is.1,
+  subst (λ ws. IsColumn width (vectors ++ vector ∷ []) ws) (sym (drop-append-le width words more is.0)) (column-push width vectors (drop width words) vector more is.2 own long),
+)
 
 -- how long a column is
 pub column-length : (width : ℕ) (vectors : List (List Bool)) (words : List ℕ) → IsColumn width vectors words → length words ≡ length vectors * width
@@ -72,10 +73,10 @@ pub unpacked_more : (dim count : ℕ) (words : List ℕ) (vectors : List (List B
 unpacked_more dim count words vectors left rest vector is e = record {
   same = append_assoc vectors (vector ∷ []) (vectors_in dim left (drop (width_of dim) rest)) ∙ ap (λ v. vectors ++ v ∷ vectors_in dim left (drop (width_of dim) rest)) e ∙ is.same;
   long =
-    let a : suc left * width_of dim ≡ left * width_of dim + width_of dim = suc-mul left (width_of dim) in
-    let b = is.long in
-    let d = length-drop (width_of dim) rest in
-    omega arith;
+      let a : suc left * width_of dim ≡ left * width_of dim + width_of dim = suc-mul left (width_of dim) in
+      let b = is.long in
+      let d = length-drop (width_of dim) rest in
+      omega arith;
 }
 
 pub unpacked_fits : (dim count : ℕ) (words : List ℕ) (vectors : List (List Bool)) (left : ℕ) (rest : List ℕ) → IsUnpacked dim count words vectors (suc left) rest → width_of dim ≤ length rest

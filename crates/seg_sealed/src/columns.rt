@@ -86,12 +86,7 @@ fn kind_in(field: &Field) -> Kind
     }
 }
 
-fn column_at<T: TailRows>(
-    alloc: Global,
-    from: &T,
-    at: usize,
-    kind: Kind,
-) -> Result<Column, Memory>
+fn column_at<T: TailRows>(alloc: Global, from: &T, at: usize, kind: Kind) -> Result<Column, Memory>
     ensures { IfOk result (λ column. column ≡ column_of kind (map (field_at at) (map fields_of (T.rows from.now)))) }
 {
     match kind {

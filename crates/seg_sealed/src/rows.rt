@@ -36,11 +36,7 @@ pub(crate) fn window(words: &[u64], width: usize, at: usize) -> &[u64]
 }
 
 /// The fields of a row of columns, each its own.
-pub(crate) fn fields_in(
-    alloc: Global,
-    columns: &[Column],
-    at: usize,
-) -> Result<Vec<Field>, Memory>
+pub(crate) fn fields_in(alloc: Global, columns: &[Column], at: usize) -> Result<Vec<Field>, Memory>
     ensures { IfOk result (λ fields. fields.items ≡ map (value_in at) columns.now) }
 {
     let mut fields = Vec::with_capacity(alloc, columns.len())?;
@@ -173,13 +169,7 @@ fn compares(left: Operand, op: CompareOp, right: &Field, row: &RowAt<'_>) -> boo
 }
 
 /// Whether the value of a row in the column at a place meets an operator and a literal.
-fn column_matches(
-    columns: &[Column],
-    at: usize,
-    place: u32,
-    op: CompareOp,
-    right: &Field,
-) -> bool
+fn column_matches(columns: &[Column], at: usize, place: u32, op: CompareOp, right: &Field) -> bool
     ensures { result ≡ matches op right.now (slice_get (map (value_in at) columns.now) place) }
 {
     match columns.get(place as usize) {
@@ -195,7 +185,9 @@ fn order(column: &Column, at: usize, right: &Field) -> Option<Ordering>
     match (column, right) {
         (Column::Ints(ints), Field::Int(b)) => Some(int_at(ints.as_slice(), at).cmp(b)),
         (Column::Bools(bools), Field::Bool(b)) => Some(bool_at(bools.as_slice(), at).cmp(b)),
-        (Column::Texts(texts), Field::Text(b)) => Some(text_at(texts.as_slice(), at).cmp(b.as_str())),
+        (Column::Texts(texts), Field::Text(b)) => Some(text_at(texts.as_slice(), at).cmp(
+            b.as_str(),
+        )),
         _ => None,
     }
 }

@@ -17,7 +17,7 @@ columns-preserved g c =
     let there : slice_get first c.columns.at ≡ Some f = slice_get_read first (length first) c.columns.at f refl lt c.index-first-at.is in
     let many : length kinds ≡ c.columns.at = length-map (take c.columns.at first) kind_of ∙ length-take-le c.columns.at first (omega arith) in
     let column : c.in_ok-column.column ≡ column_of (kind_of f) (map (field_at (0 + length kinds)) rows) =
-      c.in_ok-column.ensures ∙ ap (λ (k : Kind). column_of k (map (field_at c.columns.at) rows)) c.kind_in.ensures ∙ ap (λ n. column_of (kind_of f) (map (field_at n) rows)) (let e : c.columns.at ≡ 0 + length kinds = omega arith in e) in
+    c.in_ok-column.ensures ∙ ap (λ (k : Kind). column_of k (map (field_at c.columns.at) rows)) c.kind_in.ensures ∙ ap (λ n. column_of (kind_of f) (map (field_at n) rows)) (let e : c.columns.at ≡ 0 + length kinds = omega arith in e) in
     c.in_ok-push.ensures.items ∙ ap (λ cs. cs ++ c.in_ok-column.column ∷ []) c.columns.invariant
     ∙ ap (λ d. columns_from 0 kinds rows ++ d ∷ []) column
     ∙ sym (columns-snoc 0 kinds (kind_of f) rows) ∙ ap (λ ks. columns_from 0 ks rows) (one_more kind_of first c.columns.at f there)

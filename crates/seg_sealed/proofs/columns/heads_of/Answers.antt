@@ -15,10 +15,11 @@ rows-preserved g c =
     let row : c.get-row.result.now ≡ x.row = c.get-row.ensures ∙ ap (λ (x : Placed). x.row) c.behind-from.view_is in
     let words : AreWordsOf x.row.vector c.words.result.now = subst (λ (r : Row). AreWordsOf r.vector c.words.result.now) row c.words.ensures in
     let dim : length x.row.vector ≡ c.args.dim = all_at (λ (x : Placed). length x.row.vector ≡ c.args.dim) rows c.rows.i x c.row.ensures c.requires.fit in
-    let column = column-push (width_of c.args.dim) (map vector_of (take c.rows.i rows)) c.rows.words.items x.row.vector c.words.result.now c.rows.invariant.1 words (words_long c.args.dim x.row.vector c.words.result.now dim words) in
-    (c.in_ok-push.ensures.items ∙ ap (λ (r : Row). c.rows.keys.items ++ r.key ∷ []) row ∙ more key_of rows c.rows.i x c.rows.keys.items c.row.ensures c.rows.invariant.0,
-     subst (λ ws. IsColumn (width_of c.args.dim) (map vector_of (take (c.rows.i + 1) rows)) ws) (sym c.in_ok-extend_from_slice.ensures.items)
-     (subst (λ vs. IsColumn (width_of c.args.dim) vs (c.rows.words.items ++ c.words.result.now)) (one_more vector_of rows c.rows.i x c.row.ensures) column))
+    let column = column-push (width_of c.args.dim) (map vector_of (take c.rows.i rows)) c.rows.words.items x.row.vector c.words.result.now c.rows.invariant.1 words (words_long c.args.dim x.row.vector c.words.result.now dim words) in (
+      c.in_ok-push.ensures.items ∙ ap (λ (r : Row). c.rows.keys.items ++ r.key ∷ []) row ∙ more key_of rows c.rows.i x c.rows.keys.items c.row.ensures c.rows.invariant.0,
+      subst (λ ws. IsColumn (width_of c.args.dim) (map vector_of (take (c.rows.i + 1) rows)) ws) (sym c.in_ok-extend_from_slice.ensures.items)
+          (subst (λ vs. IsColumn (width_of c.args.dim) vs (c.rows.words.items ++ c.words.result.now)) (one_more vector_of rows c.rows.i x c.row.ensures) column),
+    )
 
 pub returns-clause-keys : goal.returns-clause-keys
 returns-clause-keys g c =

@@ -20,7 +20,7 @@ vectors-preserved c =
     let next : take i vectors ++ vector ∷ [] ≡ take (i + 1) vectors = ap (λ v. take i vectors ++ v ∷ []) (sym (get_or_from_slice_get vectors i vector [] there)) ∙ sym (take_more vectors i [] lt) in
     subst (λ vs. IsColumn (width_of c.args.dim) vs c.extend_from_slice.new.self.items) next
     (subst (λ ws. IsColumn (width_of c.args.dim) (take i vectors ++ vector ∷ []) ws) (sym c.in_ok-extend_from_slice.ensures.items)
-     (column-push (width_of c.args.dim) (take i vectors) c.vectors.words.items vector c.words.result.now c.vectors.invariant words (words_long c.args.dim vector c.words.result.now dim words)))
+    (column-push (width_of c.args.dim) (take i vectors) c.vectors.words.items vector c.words.result.now c.vectors.invariant words (words_long c.args.dim vector c.words.result.now dim words)))
 
 pub returns : goal.returns
 returns c =

@@ -23,5 +23,5 @@ pub returns : goal.returns
 returns c =
     let end : c.words.word-index ≡ length c.args.words.now = let a = c.words-test.false in let b = c.words.auto.word-index-end in omega arith in
     let bytes : c.as_slice.result.now ≡ take (c.args.dim / 8) (bytes_in c.args.words.now) =
-      c.as_slice.ensures.value ∙ c.truncate.ensures.items ∙ ap (take (c.args.dim / 8)) (c.words.invariant ∙ ap bytes_in (ap (λ n. take n c.args.words.now) end ∙ take-length c.args.words.now)) in
+    c.as_slice.ensures.value ∙ c.truncate.ensures.items ∙ ap (take (c.args.dim / 8)) (c.words.invariant ∙ ap bytes_in (ap (λ n. take n c.args.words.now) end ∙ take-length c.args.words.now)) in
     subst (λ bits. IfOk c.from_bytes.result (λ vector. vector ≡ bits)) (ap (bits_in 8) bytes ∙ vector-bytes c.args.dim c.args.words.now c.requires.dim.bytes) c.from_bytes.ensures

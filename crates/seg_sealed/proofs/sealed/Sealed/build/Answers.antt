@@ -18,8 +18,8 @@ invariant_of-result g c =
     let kinds : map kind_of c.as_slice.result.now ≡ s.kinds = ap (map kind_of) (c.as_slice.ensures ∙ ap (λ (r : Row). r.fields) first) ∙ sym (kinds_first rows c.row.result.now c.row.ensures) in
     let columns : c.in_ok-columns.columns.items ≡ columns_from 0 s.kinds (map fields_of rows) = c.in_ok-columns.ensures ∙ ap (λ ks. columns_from 0 ks (map fields_of rows)) kinds in
     let log : log_in c.args.number c.dim-dim.result c.in_ok-positions.positions.items c.in_ok-stamps.stamps.items c.in_ok-heads.heads.keys.items c.in_ok-heads.heads.words.items c.in_ok-columns.columns.items ≡ log_of s =
-      ap (λ d. log_in c.args.number d c.in_ok-positions.positions.items c.in_ok-stamps.stamps.items c.in_ok-heads.heads.keys.items c.in_ok-heads.heads.words.items c.in_ok-columns.columns.items) dim
-      ∙ log_is s c.requires c.in_ok-positions.positions.items c.in_ok-stamps.stamps.items c.in_ok-heads.heads.keys.items c.in_ok-heads.heads.words.items c.in_ok-columns.columns.items c.in_ok-positions.ensures c.in_ok-stamps.ensures c.in_ok-heads.ensures.keys column columns in
+    ap (λ d. log_in c.args.number d c.in_ok-positions.positions.items c.in_ok-stamps.stamps.items c.in_ok-heads.heads.keys.items c.in_ok-heads.heads.words.items c.in_ok-columns.columns.items) dim
+    ∙ log_is s c.requires c.in_ok-positions.positions.items c.in_ok-stamps.stamps.items c.in_ok-heads.heads.keys.items c.in_ok-heads.heads.words.items c.in_ok-columns.columns.items c.in_ok-positions.ensures c.in_ok-stamps.ensures c.in_ok-heads.ensures.keys column columns in
     subst (λ l. KeepsColumns l c.in_ok-heads.heads.words.items None) (sym log) (kept_of s c.in_ok-heads.heads.words.items c.requires column)
 
 pub returns : goal.returns
@@ -32,6 +32,6 @@ returns g c =
     let kinds : map kind_of c.as_slice.result.now ≡ s.kinds = ap (map kind_of) (c.as_slice.ensures ∙ ap (λ (r : Row). r.fields) first) ∙ sym (kinds_first rows c.row.result.now c.row.ensures) in
     let columns : c.in_ok-columns.columns.items ≡ columns_from 0 s.kinds (map fields_of rows) = c.in_ok-columns.ensures ∙ ap (λ ks. columns_from 0 ks (map fields_of rows)) kinds in
     let log : log_in c.args.number c.dim-dim.result c.in_ok-positions.positions.items c.in_ok-stamps.stamps.items c.in_ok-heads.heads.keys.items c.in_ok-heads.heads.words.items c.in_ok-columns.columns.items ≡ log_of s =
-      ap (λ d. log_in c.args.number d c.in_ok-positions.positions.items c.in_ok-stamps.stamps.items c.in_ok-heads.heads.keys.items c.in_ok-heads.heads.words.items c.in_ok-columns.columns.items) dim
-      ∙ log_is s c.requires c.in_ok-positions.positions.items c.in_ok-stamps.stamps.items c.in_ok-heads.heads.keys.items c.in_ok-heads.heads.words.items c.in_ok-columns.columns.items c.in_ok-positions.ensures c.in_ok-stamps.ensures c.in_ok-heads.ensures.keys column columns in
+    ap (λ d. log_in c.args.number d c.in_ok-positions.positions.items c.in_ok-stamps.stamps.items c.in_ok-heads.heads.keys.items c.in_ok-heads.heads.words.items c.in_ok-columns.columns.items) dim
+    ∙ log_is s c.requires c.in_ok-positions.positions.items c.in_ok-stamps.stamps.items c.in_ok-heads.heads.keys.items c.in_ok-heads.heads.words.items c.in_ok-columns.columns.items c.in_ok-positions.ensures c.in_ok-stamps.ensures c.in_ok-heads.ensures.keys column columns in
     ap (λ l. with_lists (sealed_of l) None) log ∙ seen_as s c.requires

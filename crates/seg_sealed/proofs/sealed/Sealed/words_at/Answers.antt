@@ -19,5 +19,5 @@ returns c =
     let dim : c.width.result ≡ width_of c.self.inside.dim = c.width.ensures ∙ ap (λ (s : SealedSegment). width_of s.dim) (sym c.self.view_is) in
     let vectors : map vector_of c.args.self.now.rows ≡ vectors_in c.self.inside.dim (length c.self.inside.positions.items) c.self.inside.words.items = ap (λ (s : SealedSegment). map vector_of s.rows) (sym c.self.view_is) ∙ ap (λ (l : InsertLog). l.vectors) c.self.invariant.same in
     let window : c.window.result.now ≡ take (width_of c.self.inside.dim) (drop (c.args.i * width_of c.self.inside.dim) c.self.inside.words.items) =
-      c.window.ensures ∙ ap (λ n. take n (drop (c.args.i * n) c.as_slice.result.now)) dim ∙ ap (λ ws. take (width_of c.self.inside.dim) (drop (c.args.i * width_of c.self.inside.dim) ws)) c.as_slice.ensures.value in
+    c.window.ensures ∙ ap (λ n. take n (drop (c.args.i * n) c.as_slice.result.now)) dim ∙ ap (λ ws. take (width_of c.self.inside.dim) (drop (c.args.i * width_of c.self.inside.dim) ws)) c.as_slice.ensures.value in
     words_of-row c.self.inside.dim c.args.i c.self.inside.words.items c.window.result.now c.args.self.now.rows (subst (λ vs. IsColumn (width_of c.self.inside.dim) vs c.self.inside.words.items) (sym vectors) c.self.invariant.column) window (slice_get c.args.self.now.rows c.args.i) refl
