@@ -2,7 +2,7 @@
 
 use crate::reasons::Reason;
 use hybrid_time::Timestamp;
-use row_types::{Hit, List};
+use row_types::{Hit, List, Row, Text};
 
 /// What a write met.
 #[derive(Debug, Clone, Copy, PartialEq, Eq)]
@@ -22,9 +22,35 @@ pub struct WriteReply {
     pub what: Wrote,
 }
 
+/// A row as it is shown, with the names of its columns.
+#[derive(Debug, Drop)]
+pub struct Named {
+    pub row: Row,
+    /// The names of the row's fields, in the order of the schema's columns.
+    pub names: List<Text>,
+}
+
 /// What is counted when all work has come to rest.
 #[derive(Debug, Clone, Copy, PartialEq, Eq)]
 pub struct MeetReply {
+    pub ts: Timestamp,
+    /// The keys that are live at `ts`.
+    pub live: u64,
+    /// The rows in the tails of all channels.
+    pub tail: u64,
+    /// The sealed segments that no node holds.
+    pub waiting: u64,
+    /// The rows of the segments on nodes, each segment once.
+    pub node_rows: u64,
+    /// Those of these rows that are live at `ts`.
+    pub node_live: u64,
+    /// The failures since the last meet.
+    pub failed: u64,
+}
+
+/// What is counted when the input has ended.
+#[derive(Debug, Clone, Copy, PartialEq, Eq)]
+pub struct EndReply {
     pub ts: Timestamp,
     /// The keys that are live at `ts`.
     pub live: u64,
@@ -44,10 +70,28 @@ pub enum Answer {
         ts: Timestamp,
         hits: List<Hit>,
     },
+    /// The row of a key, where it is live, in a snapshot at `ts`.
+    Found {
+        now: Timestamp,
+        guarantee: Timestamp,
+        ts: Timestamp,
+        row: Option<Named>,
+    },
+    /// A read that does not wait: the channel's tick is below the guarantee.
+    Pending {
+        now: Timestamp,
+        guarantee: Timestamp,
+        channel: u32,
+        tick: Timestamp,
+    },
     /// One tick a channel, in the order of channels.
     Ticked(List<Timestamp>),
+    /// For each channel, in their order, its timestamp and the rows that were sealed.
+    Sealed(List<(Timestamp, u32)>),
+    /// All work has come to rest.
+    Met(MeetReply),
     /// The input has ended.
-    End(MeetReply),
+    End(EndReply),
     /// The line is no request.
     Refused(Reason),
 }

@@ -19,8 +19,12 @@ pub enum Reason {
     NoVector,
     /// `vector` spells no vector of the collection's dimension.
     BadVector,
+    /// `fields` is no object of values, or they are not those of the collection's columns.
+    BadFields,
     /// `k` is absent or no integer from 1 to 16,384.
     BadK,
     /// `level` names no level, or `delta_ms` is no such number or stands beside another level than Bounded.
     BadLevel,
+    /// `filter` is no text, or is too long, or spells no filter of the collection's columns.
+    BadFilter,
 }

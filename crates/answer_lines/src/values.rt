@@ -1,14 +1,15 @@
 //! The JSON value of an answer.
 
 ghost use Rattle.std.specs.Prelude.{◌≡◌, IfOk};
+ghost use Rattle.row_types.specs.Spelling.{hex_of};
 ghost use Rattle.serde_json.specs.View.{view};
-ghost use Rattle.answer_lines.specs.Lines.{hit_data, hits_data, stamps_data, name_of, write_data, answer_data};
+ghost use Rattle.answer_lines.specs.Lines.{hit_data, hits_data, stamps_data, seals_data, field_data, fields_data, row_data, name_of, write_data, answer_data};
 
-use crate::answers::{Answer, MeetReply, WriteReply, Wrote};
+use crate::answers::{Answer, EndReply, MeetReply, Named, WriteReply, Wrote};
 use crate::reasons::Reason;
 use hybrid_time::Timestamp;
-use row_types::{Distance, Hit};
-use serde_json::{Value, json};
+use row_types::{BitVector, Distance, Field, Hit, List, Memory, Text};
+use serde_json::{Map, Value, json};
 use std::alloc::{AllocError, Global};
 
 fn name(reason: Reason) -> &'static str
@@ -23,8 +24,10 @@ fn name(reason: Reason) -> &'static str
         Reason::BadKey => "BadKey",
         Reason::NoVector => "NoVector",
         Reason::BadVector => "BadVector",
+        Reason::BadFields => "BadFields",
         Reason::BadK => "BadK",
         Reason::BadLevel => "BadLevel",
+        Reason::BadFilter => "BadFilter",
     }
 }
 
@@ -76,10 +79,123 @@ fn stamp_array(alloc: Global, stamps: &[Timestamp]) -> Result<Value, AllocError>
     Ok(Value::Array(values))
 }
 
-fn ended(alloc: Global, reply: MeetReply) -> Result<Value, AllocError>
+fn seal_array(alloc: Global, seals: &[(Timestamp, u32)]) -> Result<Value, AllocError>
+    ensures { IfOk result (λ v. view v ≡ seals_data seals.now) }
+{
+    let mut values = Vec::new(alloc);
+    for seal in seals {
+        let (ts, rows) = *seal;
+        values.push(json!(in alloc; [ts.0, rows])?)?;
+    }
+    Ok(Value::Array(values))
+}
+
+fn hex_text(alloc: Global, vector: &BitVector) -> Result<Text, AllocError>
+    ensures { IfOk result (λ text. text ≡ hex_of vector.now) }
+{
+    match vector.to_hex(alloc) {
+        Ok(text) => Ok(text),
+        Err(Memory) => Err(AllocError),
+    }
+}
+
+fn field_value(alloc: Global, field: &Field) -> Result<Value, AllocError>
+    ensures { IfOk result (λ v. view v ≡ field_data field.now) }
+{
+    match field {
+        Field::Int(number) => Ok(Value::from(*number)),
+        Field::Bool(bit) => Ok(Value::from(*bit)),
+        Field::Text(text) => json!(in alloc; text.as_str()),
+    }
+}
+
+fn fields_value(alloc: Global, names: &[Text], fields: &[Field]) -> Result<Value, AllocError>
+    ensures { IfOk result (λ v. view v ≡ fields_data names.now fields.now) }
+{
+    let mut members = Map::new(alloc);
+    let count = names.len().min(fields.len());
+    for i in 0..count {
+        let name = String::from_str(alloc, names[i].as_str())?;
+        members.insert(name, field_value(alloc, &fields[i])?)?;
+    }
+    Ok(Value::Object(members))
+}
+
+fn row_value(alloc: Global, shown: &Option<Named>) -> Result<Value, AllocError>
+    ensures { IfOk result (λ v. view v ≡ row_data shown.now) }
+{
+    match shown {
+        None => Ok(Value::Null),
+        Some(named) => {
+            let row = &named.row;
+            let fields = fields_value(alloc, named.names.as_slice(), row.fields.as_slice())?;
+            let vector = hex_text(alloc, &row.vector)?;
+            json!(in alloc; {"fields": fields, "key": row.key.0, "vector": vector.as_str()})
+        }
+    }
+}
+
+fn met(alloc: Global, number: u32, reply: MeetReply) -> Result<Value, AllocError>
+    ensures { IfOk result (λ v. view v ≡ answer_data number (Answer.Met reply)) }
+{
+    json!(in alloc; {
+        "answer": "met",
+        "failed": reply.failed,
+        "line": number,
+        "live": reply.live,
+        "node_live": reply.node_live,
+        "node_rows": reply.node_rows,
+        "tail": reply.tail,
+        "ts": reply.ts.0,
+        "waiting": reply.waiting
+    })
+}
+
+fn ended(alloc: Global, reply: EndReply) -> Result<Value, AllocError>
     ensures { IfOk result (λ v. view v ≡ answer_data 0 (Answer.End reply)) }
 {
     json!(in alloc; {"answer": "end", "live": reply.live, "ts": reply.ts.0})
+}
+
+fn hits(
+    alloc: Global,
+    number: u32,
+    now: Timestamp,
+    guarantee: Timestamp,
+    ts: Timestamp,
+    hits: &List<Hit>,
+) -> Result<Value, AllocError>
+    ensures { IfOk result (λ v. view v ≡ answer_data number (Answer.Hits now guarantee ts hits.now)) }
+{
+    let found = hit_array(alloc, hits.as_slice())?;
+    json!(in alloc; {"answer": "hits", "guarantee": guarantee.0, "hits": found, "line": number, "now": now.0, "ts": ts.0})
+}
+
+fn found(
+    alloc: Global,
+    number: u32,
+    now: Timestamp,
+    guarantee: Timestamp,
+    ts: Timestamp,
+    row: &Option<Named>,
+) -> Result<Value, AllocError>
+    ensures { IfOk result (λ v. view v ≡ answer_data number (Answer.Found now guarantee ts row.now)) }
+{
+    let shown = row_value(alloc, row)?;
+    json!(in alloc; {"answer": "row", "guarantee": guarantee.0, "line": number, "now": now.0, "row": shown, "ts": ts.0})
+}
+
+fn pending(
+    alloc: Global,
+    number: u32,
+    now: Timestamp,
+    guarantee: Timestamp,
+    channel: u32,
+    tick: Timestamp,
+) -> Result<Value, AllocError>
+    ensures { IfOk result (λ v. view v ≡ answer_data number (Answer.Pending now guarantee channel tick)) }
+{
+    json!(in alloc; {"answer": "pending", "channel": channel, "guarantee": guarantee.0, "line": number, "now": now.0, "tick": tick.0})
 }
 
 /// The object that answers input line `number`.
@@ -93,15 +209,29 @@ pub fn answer_value(alloc: Global, number: u32, answer: &Answer) -> Result<Value
             now,
             guarantee,
             ts,
-            hits,
-        } => {
-            let found = hit_array(alloc, hits.as_slice())?;
-            json!(in alloc; {"answer": "hits", "guarantee": guarantee.0, "hits": found, "line": number, "now": now.0, "ts": ts.0})
-        }
+            hits: found,
+        } => hits(alloc, number, *now, *guarantee, *ts, found),
+        Answer::Found {
+            now,
+            guarantee,
+            ts,
+            row,
+        } => found(alloc, number, *now, *guarantee, *ts, row),
+        Answer::Pending {
+            now,
+            guarantee,
+            channel,
+            tick,
+        } => pending(alloc, number, *now, *guarantee, *channel, *tick),
         Answer::Ticked(stamps) => {
             let ticks = stamp_array(alloc, stamps.as_slice())?;
             json!(in alloc; {"answer": "ticked", "line": number, "ticks": ticks})
         }
+        Answer::Sealed(pairs) => {
+            let seals = seal_array(alloc, pairs.as_slice())?;
+            json!(in alloc; {"answer": "sealed", "line": number, "seals": seals})
+        }
+        Answer::Met(reply) => met(alloc, number, *reply),
         Answer::End(reply) => ended(alloc, *reply),
         Answer::Refused(reason) => {
             json!(in alloc; {"answer": "refused", "line": number, "reason": name(*reason)})

@@ -6,8 +6,8 @@ use Rattle.std.proofs.lemmas.List.{append-nil}
 use Rattle.std.proofs.lemmas.List.Elements.{filter-append}
 use Rattle.std.proofs.lemmas.Grind.{flat_map-append}
 use Rattle.log_model.proofs.LogLaws.{each-append, each_implied}
-use Rattle.legal_output.specs.Lines.{Line, caller_of, written_of, counted_of}
-use Rattle.legal_output.specs.Printed.{greatest, heard, is_caller, last_meet, meet_or, last_write, write_or}
+use Rattle.legal_output.specs.Lines.{Line, caller_of, written_of, met_of}
+use Rattle.legal_output.specs.Printed.{greatest, lines_of, is_caller, meet_behind, meet_or, write_behind, write_or}
 use Rattle.legal_output.specs.Legal.{AtEach, Differ, Rising, Numbered}
 
 pub each-push : {X : Type 0} (P : X → Type 0) (xs : List X) (x : X) → Each P xs → P x → Each P (xs ++ x ∷ [])
@@ -43,7 +43,7 @@ pub differ-rising : (ns : List ℕ) → Rising ns → Differ ns
 differ-rising [] rises = tt
 differ-rising (n ∷ ns) rises = (each_implied (λ m. n < m) (λ m. n ≢ m) (λ m above. λ same. apart n m m above (le_self m) same) ns rises.0, differ-rising ns rises.1)
 
--- what holds of all holds of those that some caller has heard
+-- what holds of all lines holds of a caller's
 kept_each : (P : Line → Type 0) (b : Bool) (line : Line) (lines : List Line) → P line → Each P lines → Each P (cond b (line ∷ lines) lines)
 kept_each P true line lines one all = (one, all)
 kept_each P false line lines one all = all
@@ -52,9 +52,9 @@ filter_each : (P : Line → Type 0) (p : Line → Bool) (lines : List Line) → 
 filter_each P p [] all = tt
 filter_each P p (line ∷ lines) all = kept_each P (p line) line (filter p lines) all.0 (filter_each P p lines all.1)
 
-pub heard_each : (P : Line → Type 0) (who : Option ℕ) (lines : List Line) → Each P lines → Each P (heard who lines)
-heard_each P None lines all = all
-heard_each P (Some caller) lines all = filter_each P (λ line. is_caller caller (caller_of line.asked)) lines all
+pub lines_of_each : (P : Line → Type 0) (who : Option ℕ) (lines : List Line) → Each P lines → Each P (lines_of who lines)
+lines_of_each P None lines all = all
+lines_of_each P (Some caller) lines all = filter_each P (λ line. is_caller caller (caller_of line.asked)) lines all
 
 pub each-flat_map : {X A : Type 0} (P : A → Type 0) (f : X → List A) (xs : List X) → Each (λ x. Each P (f x)) xs → Each P (flat_map f xs)
 each-flat_map P f [] all = tt
@@ -74,13 +74,13 @@ pub greatest-lt : (clock : ℕ) (ns : List ℕ) → 0 < clock → Each (λ n. n 
 greatest-lt clock [] some all = some
 greatest-lt clock (n ∷ ns) some all = max_lt n (greatest ns) clock all.0 (greatest-lt clock ns some all.1)
 
-pub last_meet-push : (met : ℕ) (lines : List Line) (line : Line) → last_meet met (lines ++ line ∷ []) ≡ meet_or (last_meet met lines) (counted_of line.answer)
-last_meet-push met [] line = refl
-last_meet-push met (other ∷ lines) line = last_meet-push (meet_or met (counted_of other.answer)) lines line
+pub meet_behind-push : (met : ℕ) (lines : List Line) (line : Line) → meet_behind met (lines ++ line ∷ []) ≡ meet_or (meet_behind met lines) (met_of line.answer)
+meet_behind-push met [] line = refl
+meet_behind-push met (other ∷ lines) line = meet_behind-push (meet_or met (met_of other.answer)) lines line
 
-pub last_write-push : (mine : ℕ) (lines : List Line) (line : Line) → last_write mine (lines ++ line ∷ []) ≡ write_or (last_write mine lines) (written_of line.answer)
-last_write-push mine [] line = refl
-last_write-push mine (other ∷ lines) line = last_write-push (write_or mine (written_of other.answer)) lines line
+pub write_behind-push : (mine : ℕ) (lines : List Line) (line : Line) → write_behind mine (lines ++ line ∷ []) ≡ write_or (write_behind mine lines) (written_of line.answer)
+write_behind-push mine [] line = refl
+write_behind-push mine (other ∷ lines) line = write_behind-push (write_or mine (written_of other.answer)) lines line
 
-pub heard-push : (caller : ℕ) (lines : List Line) (line : Line) → heard (Some caller) (lines ++ line ∷ []) ≡ heard (Some caller) lines ++ cond (is_caller caller (caller_of line.asked)) (line ∷ []) []
-heard-push caller lines line = filter-append (λ other. is_caller caller (caller_of other.asked)) lines (line ∷ [])
+pub lines_of-push : (caller : ℕ) (lines : List Line) (line : Line) → lines_of (Some caller) (lines ++ line ∷ []) ≡ lines_of (Some caller) lines ++ cond (is_caller caller (caller_of line.asked)) (line ∷ []) []
+lines_of-push caller lines line = filter-append (λ other. is_caller caller (caller_of other.asked)) lines (line ∷ [])

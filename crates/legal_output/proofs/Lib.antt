@@ -1,4 +1,12 @@
+pub mod Blocks
+pub mod Broken
 pub mod Grown
+pub mod KeyByKey
 pub mod Later
 pub mod Placed
 pub mod Stands
+pub mod Pasts
+pub mod InPhases
+pub mod PhaseRuns
+pub mod Alone
+pub mod Members

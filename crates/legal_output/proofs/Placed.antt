@@ -15,39 +15,65 @@ use Rattle.log_model.proofs.LogLaws.{each_implied}
 le_over : (a b c : ℕ) → a < b → b ≤ c → a ≤ c
 le_over a b c low high = omega arith
 
-place-first : (clock : ℕ) (entry : Entry) (later : List Entry) → entry.ts.0 < clock → Each (λ e. clock ≤ e.ts.0) later → place entry later ≡ entry ∷ later
-place-first clock entry [] low high = refl
-place-first clock entry (other ∷ others) low high = ap (λ b. cond b (entry ∷ other ∷ others) (other ∷ place entry others)) (le-leb entry.ts.0 other.ts.0 (le_over entry.ts.0 clock other.ts.0 low high.0))
+module _ {X : Type 0} (ts_of : X → ℕ) where
+  place-first : (clock : ℕ) (item : X) (later : List X) → ts_of item < clock → Each (λ x. clock ≤ ts_of x) later → place ts_of item later ≡ item ∷ later
+  place-first clock item [] low high = refl
+  place-first clock item (other ∷ others) low high = ap (λ b. cond b (item ∷ other ∷ others) (other ∷ place ts_of item others)) (le-leb (ts_of item) (ts_of other) (le_over (ts_of item) clock (ts_of other) low high.0))
 
-place-append : (clock : ℕ) (entry : Entry) (entries later : List Entry) → entry.ts.0 < clock → Each (λ e. clock ≤ e.ts.0) later → place entry (entries ++ later) ≡ place entry entries ++ later
-place-append clock entry [] later low high = place-first clock entry later low high
-place-append clock entry (other ∷ entries) later low high =
-    let rest = place-append clock entry entries later low high in
-    elim (nat_le entry.ts.0 other.ts.0) as (λ b. cond b (entry ∷ other ∷ (entries ++ later)) (other ∷ place entry (entries ++ later)) ≡ cond b (entry ∷ other ∷ entries) (other ∷ place entry entries) ++ later) [
-      | true ↦ refl
-      | false ↦ ap (λ l. other ∷ l) rest
-    ]
+  place-append : (clock : ℕ) (item : X) (items later : List X) → ts_of item < clock → Each (λ x. clock ≤ ts_of x) later → place ts_of item (items ++ later) ≡ place ts_of item items ++ later
+  place-append clock item [] later low high = place-first clock item later low high
+  place-append clock item (other ∷ items) later low high =
+      let rest = place-append clock item items later low high in
+      elim (nat_le (ts_of item) (ts_of other)) as (λ b. cond b (item ∷ other ∷ (items ++ later)) (other ∷ place ts_of item (items ++ later)) ≡ cond b (item ∷ other ∷ items) (other ∷ place ts_of item items) ++ later) [
+        | true ↦ refl
+        | false ↦ ap (λ l. other ∷ l) rest
+      ]
 
-ordered-append : (clock : ℕ) (entries later : List Entry) → Each (λ e. e.ts.0 < clock) entries → Each (λ e. clock ≤ e.ts.0) later → ordered later ≡ later
-    → ordered (entries ++ later) ≡ ordered entries ++ later
-ordered-append clock [] later low high same = same
-ordered-append clock (entry ∷ entries) later low high same = ap (place entry) (ordered-append clock entries later low.1 high same) ∙ place-append clock entry (ordered entries) later low.0 high
+  pub ordered-append : (clock : ℕ) (items later : List X) → Each (λ x. ts_of x < clock) items → Each (λ x. clock ≤ ts_of x) later → ordered ts_of later ≡ later
+      → ordered ts_of (items ++ later) ≡ ordered ts_of items ++ later
+  ordered-append clock [] later low high same = same
+  ordered-append clock (item ∷ items) later low high same = ap (place ts_of item) (ordered-append clock items later low.1 high same) ∙ place-append clock item (ordered ts_of items) later low.0 high
+
+module _ {X : Type 0} (ts_of : X → ℕ) (P : X → Type 0) where
+  pub place_each : (item : X) (items : List X) → P item → Each P items → Each P (place ts_of item items)
+  place_each item [] here all = (here, tt)
+  place_each item (other ∷ others) here all =
+      let rest = place_each item others here all.1 in
+      elim (nat_le (ts_of item) (ts_of other)) as (λ b. Each P (cond b (item ∷ other ∷ others) (other ∷ place ts_of item others))) [
+        | true ↦ (here, all)
+        | false ↦ (all.0, rest)
+      ]
+
+  pub ordered_each : (items : List X) → Each P items → Each P (ordered ts_of items)
+  ordered_each [] all = tt
+  ordered_each (item ∷ items) all = place_each item (ordered ts_of items) all.0 (ordered_each items all.1)
+
+-- items that are later than all others stand behind them
+pub ordered-blocks : {X : Type 0} (ts_of : X → ℕ) (clock : ℕ) (items later : List X) → Each (λ x. ts_of x < clock) items → Each (λ x. clock ≤ ts_of x) later
+    → ordered ts_of (items ++ later) ≡ ordered ts_of items ++ ordered ts_of later
+ordered-blocks ts_of clock [] later low high = refl
+ordered-blocks ts_of clock (item ∷ items) later low high =
+    ap (place ts_of item) (ordered-blocks ts_of clock items later low.1 high)
+    ∙ place-append ts_of clock item (ordered ts_of items) (ordered ts_of later) low.0 (ordered_each ts_of (λ x. clock ≤ ts_of x) later high)
+
+abbrev time_of : Entry → ℕ
+time_of entry = entry.ts.0
 
 place-same : (ts : ℕ) (change : Write) (changes : List Write)
-    → place (record { ts = record { 0 = ts }; write = change }) (entries_if changes (Some (record { ts = ts; replies = [] }))) ≡ record { ts = record { 0 = ts }; write = change } ∷ entries_if changes (Some (record { ts = ts; replies = [] }))
+    → place time_of (record { ts = record { 0 = ts }; write = change }) (entries_if changes (Some (record { ts = ts; replies = [] }))) ≡ record { ts = record { 0 = ts }; write = change } ∷ entries_if changes (Some (record { ts = ts; replies = [] }))
 place-same ts change [] = refl
 place-same ts change (other ∷ changes) =
     let here : Entry = record { ts = record { 0 = ts }; write = change } in
     let next : Entry = record { ts = record { 0 = ts }; write = other } in
     let rest : List Entry = entries_if changes (Some (record { ts = ts; replies = [] })) in
-    ap (λ b. cond b (here ∷ next ∷ rest) (next ∷ place here rest)) (le-leb ts ts (omega arith))
+    ap (λ b. cond b (here ∷ next ∷ rest) (next ∷ place time_of here rest)) (le-leb ts ts (omega arith))
 
 -- the changes of one answer have one timestamp, and stay in their order
-ordered-changes : (ts : ℕ) (changes : List Write) → ordered (entries_if changes (Some (record { ts = ts; replies = [] }))) ≡ entries_if changes (Some (record { ts = ts; replies = [] }))
+ordered-changes : (ts : ℕ) (changes : List Write) → ordered time_of (entries_if changes (Some (record { ts = ts; replies = [] }))) ≡ entries_if changes (Some (record { ts = ts; replies = [] }))
 ordered-changes ts [] = refl
-ordered-changes ts (change ∷ changes) = ap (place (record { ts = record { 0 = ts }; write = change })) (ordered-changes ts changes) ∙ place-same ts change changes
+ordered-changes ts (change ∷ changes) = ap (place time_of (record { ts = record { 0 = ts }; write = change })) (ordered-changes ts changes) ∙ place-same ts change changes
 
-ordered-if : (changes : List Write) (written : Option Written) → ordered (entries_if changes written) ≡ entries_if changes written
+ordered-if : (changes : List Write) (written : Option Written) → ordered time_of (entries_if changes written) ≡ entries_if changes written
 ordered-if changes None = refl
 ordered-if changes (Some written) = ordered-changes written.ts changes
 
@@ -60,7 +86,11 @@ pub entries_hold : (Q : ℕ → Type 0) (changes : List Write) (answer : Answer)
 entries_hold Q changes answers.Created all = tt
 entries_hold Q changes (answers.Wrote reply) all = entries_at Q reply.ts.0 changes all.0
 entries_hold Q changes (answers.Hits now guarantee ts hits) all = tt
+entries_hold Q changes (answers.Found now guarantee ts row) all = tt
+entries_hold Q changes (answers.Pending now guarantee channel tick) all = tt
 entries_hold Q changes (answers.Ticked ticks) all = tt
+entries_hold Q changes (answers.Sealed seals) all = tt
+entries_hold Q changes (answers.Met reply) all = tt
 entries_hold Q changes (answers.End reply) all = tt
 entries_hold Q changes (answers.Refused reason) all = tt
 
@@ -68,7 +98,11 @@ pub drawn_shown : (Q : ℕ → Type 0) (answer : Answer) → Each Q (stamps answ
 drawn_shown Q answers.Created all = all
 drawn_shown Q (answers.Wrote reply) all = all
 drawn_shown Q (answers.Hits now guarantee ts hits) all = (all.0, tt)
+drawn_shown Q (answers.Found now guarantee ts row) all = (all.0, tt)
+drawn_shown Q (answers.Pending now guarantee channel tick) all = (all.0, tt)
 drawn_shown Q (answers.Ticked ticks) all = all
+drawn_shown Q (answers.Sealed seals) all = all
+drawn_shown Q (answers.Met reply) all = all
 drawn_shown Q (answers.End reply) all = all
 drawn_shown Q (answers.Refused reason) all = all
 
@@ -80,7 +114,7 @@ printed_log-push start clock lines line low high =
     let lower : Each (λ e. e.ts.0 < clock) (flat_map entries_of lines) = each-flat_map (λ e. e.ts.0 < clock) entries_of lines
     (each_implied (λ other. Each (λ n. n < clock) (stamps other.answer)) (λ other. Each (λ e. e.ts.0 < clock) (entries_of other))
     (λ other all. entries_hold (λ n. n < clock) (changes_of other.asked) other.answer (drawn_shown (λ n. n < clock) other.answer all)) lines low) in
-    ap (λ es. start.base ++ ordered es) (flat_map-push entries_of lines line)
-    ∙ ap (λ es. start.base ++ es) (ordered-append clock (flat_map entries_of lines) (entries_of line) lower
+    ap (λ es. start.base ++ ordered time_of es) (flat_map-push entries_of lines line)
+    ∙ ap (λ es. start.base ++ es) (ordered-append time_of clock (flat_map entries_of lines) (entries_of line) lower
     (entries_hold (λ n. clock ≤ n) (changes_of line.asked) line.answer high) (ordered-if (changes_of line.asked) (written_of line.answer)))
-    ∙ sym (append_assoc start.base (ordered (flat_map entries_of lines)) (entries_of line))
+    ∙ sym (append_assoc start.base (ordered time_of (flat_map entries_of lines)) (entries_of line))

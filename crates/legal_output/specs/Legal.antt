@@ -1,7 +1,9 @@
 -- When the lines of an output are legal.
-use Rattle.std.specs.Prelude.{◌≡◌, ◌≢◌, ℕ, ◌+◌, ◌<◌, ◌≤◌, Bool, cond, List, [], ◌∷◌, ◌++◌, map, IfSome, ⊤}
+use Rattle.std.specs.Prelude.{◌≡◌, ◌≢◌, ℕ, ◌+◌, ◌*◌, ◌<◌, ◌≤◌, Bool, false, cond, List, [], ◌∷◌, ◌++◌, map, Option, Some, None, IfSome, ⊤}
+use Rattle.std.specs.Option.{option_map}
 use Rattle.std.specs.List.{AllByRecursion as Each, AllZip}
 use Rattle.std.specs.FinMap as fin
+use Rattle.hybrid_time.specs.declared.times.Timestamp.{Timestamp}
 use Rattle.hybrid_time.specs.declared.levels.Level.{Level}
 use Rattle.hybrid_time.specs.Levels.{guarantee_of}
 use Rattle.log_model.specs.declared.logs.Write.{Write}
@@ -12,17 +14,21 @@ use Rattle.log_model.specs.Logs.{live, was_live}
 use Rattle.log_model.specs.Scans.{scan}
 use Rattle.answer_lines.specs.declared.answers.Wrote.{Wrote}
 use Rattle.answer_lines.specs.declared.answers.Wrote.TheVariants.{Inserted, Exists, Was}
+use Rattle.answer_lines.specs.declared.answers.MeetReply.{MeetReply}
+use Rattle.answer_lines.specs.declared.answers.EndReply.{EndReply}
 use Rattle.answer_lines.specs.declared.answers.Answer.{Answer}
 use Rattle.answer_lines.specs.declared.answers.Answer.TheVariants as answers
 use Rattle.request_lines.specs.declared.requests.Ask.{Ask}
 use Rattle.request_lines.specs.declared.requests.Ask.TheVariants as asks
-use Rattle.legal_output.specs.Lines.{Asked, Bad, Given, Line, Start, Stated, Snapshot, changes_of, level_of, written_of, stated_of, snapshot_of, counted_of, drawn, IsOfKind}
-use Rattle.legal_output.specs.Printed.{Past, printed_log, past_of, all_drawn}
+use Rattle.legal_output.specs.Lines.{Asked, Bad, Given, Line, Start, Reading, Stated, Snapshot, Late, changes_of, reading_of, written_of, stated_of, snapshot_of, late_of, seals_of, met_of, ended_of, drawn, IsOfKind}
+use Rattle.legal_output.specs.Printed.{Tail, Past, printed_log, printed_tail, tail_before, sum_over, past_of, all_drawn, phase_failures}
 
 -- a fact of each line, given the lines before it
 abbrev pub AtEach : (List Line → Line → Type 0) → List Line → List Line → Type 0
 AtEach P earlier [] = ⊤
 AtEach P earlier (line ∷ lines) = P earlier line × AtEach P (earlier ++ line ∷ []) lines
+
+-- ---- form, refusals, numbers
 
 -- the lines are numbered from `first` on
 abbrev pub Numbered : ℕ → List Line → Type 0
@@ -49,6 +55,8 @@ pub record HasNumbers (start : Start) (numbers : List ℕ) : Type 0 where
   pub differ : Differ numbers
   pub above : Each (λ n. start.m0 < n) numbers
 
+-- ---- writes and content
+
 -- what a write is told, by whether its key was live
 abbrev pub told_of : Write → Bool → Wrote
 told_of (Insert row) there = cond there Exists Inserted
@@ -64,42 +72,89 @@ Replied log asked answer = IfSome (written_of answer) (λ written. AllZip (λ ch
 
 abbrev pub ShowsContent : Plan → List Entry → Ask → Answer → Type 0
 ShowsContent plan log (asks.Search query level wait) (answers.Hits now guarantee ts hits) = hits ≡ scan log ts.0 plan query
+ShowsContent plan log (asks.Get key level wait) (answers.Found now guarantee ts row) = option_map (λ named. named.row) row ≡ fin.get (live log ts.0) key.0
 ShowsContent plan log ask answer = ⊤
 
--- the hits of a search are the scan of the log at the printed timestamp
+-- the hits of a search are the scan of the log at the printed timestamp, and the row of a get is the key's
 abbrev pub HasContent : Plan → List Entry → Asked → Answer → Type 0
 HasContent plan log (Given request) answer = ShowsContent plan log request.what answer
 HasContent plan log asked answer = ⊤
 
+-- ---- levels, order, pending
+
 abbrev pub IsGuarantee : Past → Level → Stated → Type 0
-IsGuarantee past level stated = stated.guarantee ≡ guarantee_of level stated.now past.mine
+IsGuarantee past level stated = stated.guarantee ≡ guarantee_of level stated.now past.last_write
 
--- a snapshot is as fresh as its guarantee, and as what the caller knows of one of the channels
-pub record IsFresh (channels : ℕ) (past : Past) (snapshot : Snapshot) : Type 0 where
+-- a timestamp is not below what the caller knows of the one channel that it reads, or of one of all
+abbrev pub CoversKnown : ℕ → Past → Option ℕ → ℕ → Type 0
+CoversKnown channels past (Some channel) ts = past.known_tick channel ≤ ts
+CoversKnown channels past None ts = (channel : ℕ) × (channel < channels) × (past.known_tick channel ≤ ts)
+
+-- a snapshot is as fresh as its guarantee, and as what the caller knows
+pub record IsFresh (channels : ℕ) (past : Past) (reading : Reading) (snapshot : Snapshot) : Type 0 where
   pub guaranteed : snapshot.guarantee ≤ snapshot.ts
-  pub known : (channel : ℕ) × (channel < channels) × (past.known channel ≤ snapshot.ts)
+  pub known : CoversKnown channels past reading.channel snapshot.ts
 
-pub record ReadsAt (channels : ℕ) (past : Past) (answer : Answer) (level : Level) : Type 0 where
-  pub guarantee : IfSome (stated_of answer) (IsGuarantee past level)
-  pub fresh : IfSome (snapshot_of answer) (IsFresh channels past)
+pub record ReadsAt (channels : ℕ) (past : Past) (answer : Answer) (reading : Reading) : Type 0 where
+  pub guarantee : IfSome (stated_of answer) (IsGuarantee past reading.level)
+  pub fresh : IfSome (snapshot_of answer) (IsFresh channels past reading)
 
 -- the guarantee of a read is that of its level, and its snapshot is not older
 abbrev pub HasLevel : ℕ → Past → Asked → Answer → Type 0
-HasLevel channels past asked answer = IfSome (level_of asked) (ReadsAt channels past answer)
+HasLevel channels past asked answer = IfSome (reading_of channels asked) (ReadsAt channels past answer)
 
 abbrev pub Rising : List ℕ → Type 0
 Rising [] = ⊤
 Rising (n ∷ ns) = Each (λ m. n < m) ns × Rising ns
 
--- the numbers of an answer rise, and are above the last meet and all that its caller was told before
+-- the numbers of an answer rise, and are above the last meet and all that was printed for its caller before; the
+-- number of a meet is above all before it, so this is above all of earlier phases
 pub record InOrder (past : Past) (answer : Answer) : Type 0 where
   pub rising : Rising (drawn answer)
-  pub met : Each (λ n. past.met < n) (drawn answer)
-  pub told : Each (λ n. past.told < n) (drawn answer)
+  pub after_meet : Each (λ n. past.last_meet < n) (drawn answer)
+  pub after_caller : Each (λ n. past.last_stamp < n) (drawn answer)
 
--- the count of live rows is that of the log
-abbrev pub CountsRightly : List Entry → Answer → Type 0
-CountsRightly log answer = IfSome (counted_of answer) (λ counted. counted.live ≡ fin.len (live log counted.ts.0))
+-- whether a read needs a channel of a collection
+abbrev pub IsNeeded : ℕ → Option ℕ → ℕ → Type 0
+IsNeeded channels (Some only) channel = only ≡ channel
+IsNeeded channels None channel = channel < channels
+
+-- a read is pending only where it does not wait, for a channel that it needs and whose tick is below the guarantee
+pub record IsPending (channels : ℕ) (past : Past) (reading : Reading) (late : Late) : Type 0 where
+  pub alone : reading.wait ≡ false
+  pub needed : IsNeeded channels reading.channel late.channel
+  pub known : past.known_tick late.channel ≤ late.tick
+  pub below : late.tick < late.guarantee
+
+abbrev pub PendingRightly : ℕ → Past → Asked → Answer → Type 0
+PendingRightly channels past asked answer = IfSome (reading_of channels asked) (λ reading. IfSome (late_of answer) (IsPending channels past reading))
+
+-- ---- meets
+
+abbrev pub CountsLive : List Entry → EndReply → Type 0
+CountsLive log counted = counted.live ≡ fin.len (live log counted.ts.0)
+
+-- what is counted at a meet, where the tails of the channels are `tails` and the lines of the phase told `failures`
+pub record Counts (start : Start) (log : List Entry) (tails : ℕ → Tail) (failures : ℕ) (counted : MeetReply) : Type 0 where
+  pub live : counted.live ≡ fin.len (live log counted.ts.0)
+  pub tail : counted.tail ≡ sum_over start.channels (λ channel. (tails channel).rows)
+  pub node_live : counted.node_live ≤ counted.node_rows
+  pub merged : counted.failed ≡ 0 → counted.node_rows ≤ 2 * counted.node_live
+  pub least : counted.node_live ≤ counted.live
+  pub most : counted.live ≤ counted.tail + counted.waiting * start.seal_rows + counted.node_live
+  pub waiting : counted.waiting ≤ sum_over start.channels (λ channel. (tails channel).segments)
+  pub failed : failures ≤ counted.failed
+
+-- the rows of each seal, from channel `channel` on, are those of the tail just before it
+abbrev pub AreTails : (ℕ → ℕ → Tail) → ℕ → List (Timestamp × ℕ) → Type 0
+AreTails tail_at channel [] = ⊤
+AreTails tail_at channel (seal ∷ seals) = (seal.1 ≡ (tail_at seal.0.0 channel).rows) × AreTails tail_at (channel + 1) seals
+
+-- what is counted at a seal, a meet and the end
+pub record CountsRightly (start : Start) (lines earlier : List Line) (answer : Answer) : Type 0 where
+  pub sealed : AreTails (tail_before start lines) 0 (seals_of answer)
+  pub met : IfSome (met_of answer) (λ counted. Counts start (printed_log start lines) (printed_tail start lines counted.ts.0) (phase_failures 0 earlier) counted)
+  pub ended : IfSome (ended_of answer) (CountsLive (printed_log start lines))
 
 -- The clauses, each over all lines:
 --   form       one line for each that was asked, in order, with its number and of its kind
@@ -109,7 +164,8 @@ CountsRightly log answer = IfSome (counted_of answer) (λ counted. counted.live 
 --   content    each read shows the log at its printed timestamp
 --   levels     each guarantee is that of its level, and each snapshot is as fresh as it says
 --   order      the numbers of a caller rise from line to line, and those of a meet are above all before
---   meets      each count is that of the log
+--   pending    only a read that does not wait is pending, for a tick that is too old
+--   meets      each count is that of the log and of the tails
 pub record IsLegal (start : Start) (asks : List Asked) (lines : List Line) : Type 0 where
   pub form : HasForm start asks lines
   pub refusals : Each (λ line. RefusedRightly line.asked line.answer) lines
@@ -118,4 +174,5 @@ pub record IsLegal (start : Start) (asks : List Asked) (lines : List Line) : Typ
   pub content : Each (λ line. HasContent start.plan (printed_log start lines) line.asked line.answer) lines
   pub levels : AtEach (λ earlier line. HasLevel start.channels (past_of start earlier line) line.asked line.answer) [] lines
   pub order : AtEach (λ earlier line. InOrder (past_of start earlier line) line.answer) [] lines
-  pub meets : Each (λ line. CountsRightly (printed_log start lines) line.answer) lines
+  pub pending : AtEach (λ earlier line. PendingRightly start.channels (past_of start earlier line) line.asked line.answer) [] lines
+  pub meets : AtEach (λ earlier line. CountsRightly start lines earlier line.answer) [] lines

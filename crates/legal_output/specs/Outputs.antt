@@ -24,7 +24,9 @@ asks_of collection input = map (λ line. asked_of (request_of collection line)) 
 abbrev pub start_of : Collection → Start
 start_of collection = record {
   channels = collection.channels;
+  seal_rows = collection.seal_rows;
   plan = record { metric = collection.metric };
+  columns = collection.schema.columns;
   base = [];
   m0 = 0;
 }

@@ -1,5 +1,5 @@
 -- Laws of logs: what was written above a timestamp changes nothing at it.
-use Rattle.std.proofs.Common.{◌≡◌, ℕ, ◌<◌, ◌≤◌, Bool, true, false, cond, List, [], ◌∷◌, ◌++◌, map, refl, ap, ◌∙◌}
+use Rattle.std.proofs.Common.{◌≡◌, ℕ, ◌<◌, ◌≤◌, Bool, true, false, cond, List, [], ◌∷◌, ◌++◌, refl, ap, ◌∙◌}
 use Rattle.std.specs.List.{filter, AllByRecursion}
 use Rattle.std.specs.FinMap as fin
 use Rattle.std.proofs.lemmas.Bool.{le-leb, lt-leb, lt-ltb, le-ltb}
@@ -10,7 +10,7 @@ use Rattle.log_model.specs.declared.logs.Write.{Write}
 use Rattle.log_model.specs.declared.queries.Plan.{Plan}
 use Rattle.log_model.specs.declared.queries.Query.{Query}
 use Rattle.log_model.specs.Logs.{Rows, key_of, up_to, below, applied, after, rows_of, live, was_live}
-use Rattle.log_model.specs.Scans.{hit_of, scan}
+use Rattle.log_model.specs.Scans.{passes_filter, hits_found, scan}
 use Rattle.row_types.specs.Hits.{least}
 
 module _ {X : Type 0} where
@@ -71,4 +71,4 @@ was_live-more log more ts write above = ap (λ l. fin.contains_key (rows_of l) (
 
 pub scan-more : (log more : List Entry) (ts : ℕ) (plan : Plan) (query : Query) → AllByRecursion (λ entry. ts < entry.ts.0) more → scan (log ++ more) ts plan query ≡ scan log ts plan query
 unfolding scan
-scan-more log more ts plan query above = ap (λ rows. least query.k (map (hit_of plan query) (fin.values rows))) (live-more log more ts above)
+scan-more log more ts plan query above = ap (λ rows. least query.k (hits_found (passes_filter query.filter) plan query (fin.values rows))) (live-more log more ts above)

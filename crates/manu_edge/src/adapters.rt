@@ -1,16 +1,16 @@
 //! The real outside: standard input, standard output and the system's clock. They tell nothing of
 //! what passes.
 
-ghost use Rattle.std.specs.Prelude.{◌≡◌, ◌≤◌};
+ghost use Rattle.std.specs.Prelude.{◌≡◌};
 ghost use Rattle.std.specs.declared.option.Option.TheVariants.{None};
-ghost use Rattle.manu_edge.specs.Faults.{next};
 
+use crate::answers::{counted, moment_of, read_answer, write_answer};
 use crate::clocks::Moments;
 use crate::faults::Failed;
 use crate::sinks::Sink;
 use crate::sources::Source;
 use std::io::{Read, Stdin, Stdout, Write};
-use std::time::{Clock, SystemTime, UNIX_EPOCH};
+use std::time::{Clock, Duration, SystemTime, UNIX_EPOCH};
 
 /// Standard input.
 #[derive(Drop)]
@@ -34,13 +34,9 @@ impl Source for StandardInput {
     ghost faults = { λ input. input.faults };
 
     fn read(&mut self, into: &mut [u8]) -> Result<usize, Failed> {
-        match Read::read(&mut self.input, into) {
-            Ok(count) => Ok(count),
-            Err(_) => {
-                self.faults = self.faults.saturating_add(1);
-                Err(Failed)
-            }
-        }
+        let answer = read_answer(Read::read(&mut self.input, into));
+        self.faults = counted(self.faults, &answer);
+        answer
     }
 }
 
@@ -58,14 +54,6 @@ impl StandardOutput {
     {
         StandardOutput { output, faults: 0 }
     }
-
-    fn fail(&mut self) -> Failed
-        ensures faults { self.new.faults ≡ next self.old.faults }
-        ensures later { self.old.faults ≤ self.new.faults }
-    {
-        self.faults = self.faults.saturating_add(1);
-        Failed
-    }
 }
 
 impl Sink for StandardOutput {
@@ -73,13 +61,10 @@ impl Sink for StandardOutput {
 
     ghost faults = { λ output. output.faults };
 
-    /// An output that takes nothing fails.
     fn write(&mut self, piece: &[u8]) -> Result<usize, Failed> {
-        match Write::write(&mut self.output, piece) {
-            Ok(0) if !piece.is_empty() => Err(self.fail()),
-            Ok(count) => Ok(count),
-            Err(_) => Err(self.fail()),
-        }
+        let answer = write_answer(Write::write(&mut self.output, piece), piece.len());
+        self.faults = counted(self.faults, &answer);
+        answer
     }
 }
 
@@ -103,12 +88,11 @@ impl<R: Clock> Moments for SystemClock<R> {
 
     /// The moment, or 0 where the clock can't be read.
     fn now(&self) -> u64 {
-        let Ok(time) = SystemTime::now(&self.clock) else {
-            return 0;
-        };
-        match time.duration_since(UNIX_EPOCH) {
-            Ok(since) => u64::try_from(since.as_millis()).unwrap_or(u64::MAX),
-            Err(_) => 0,
-        }
+        moment_of(since_1970(&self.clock))
     }
+}
+
+fn since_1970(clock: &impl Clock) -> Option<Duration> {
+    let time = SystemTime::now(clock).ok()?;
+    time.duration_since(UNIX_EPOCH).ok()
 }

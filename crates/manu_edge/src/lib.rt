@@ -7,6 +7,7 @@
 #![tactic(auto)]
 
 mod adapters;
+mod answers;
 mod clocks;
 mod faults;
 mod gates;
@@ -17,6 +18,7 @@ mod sources;
 mod tests;
 
 pub use crate::adapters::{StandardInput, StandardOutput, SystemClock};
+pub use crate::answers::{counted, moment_of, read_answer, write_answer};
 pub use crate::clocks::{FixedMoments, Moments};
 pub use crate::faults::{Failed, FailurePlan, KeepError};
 pub use crate::gates::{At, Gate, OpenGate, Point};

@@ -1,6 +1,6 @@
 //! Where the input comes from.
 
-ghost use Rattle.std.specs.Prelude.{◌≡◌, ℕ, ◌≤◌, [], List, drop, is_err, IsOk, vec_len};
+ghost use Rattle.std.specs.Prelude.{◌≡◌, ℕ, ◌-◌, ◌≤◌, [], List, length, min, drop, is_err, IsOk, IfOk, vec_len};
 ghost use Rattle.std.specs.declared.option.Option.{Option};
 ghost use Rattle.std.specs.declared.option.Option.TheVariants.{Some};
 ghost use Rattle.std.specs.Io.{ReadsAtMost};
@@ -56,11 +56,13 @@ impl Source for BytesSource {
 
     ghost faults = { λ source. source.plan.faults };
 
+    /// Gives as many bytes as fit.
     fn read(&mut self, into: &mut [u8]) -> Result<usize, Failed>
         ensures bound { ReadsAtMost result into.new }
         ensures bytes { ReadConsumes (Some (drop self.old.at self.old.bytes.items)) (Some (drop self.new.at self.new.bytes.items)) result into.new }
         ensures cause { HasCause self.old.plan.faults self.new.plan.faults result }
         ensures telling { TellsAlike (Some (drop self.old.at self.old.bytes.items)) (Some (drop self.new.at self.new.bytes.items)) }
+        ensures whole { IfOk result (λ n. n ≡ min (vec_len self.old.bytes - self.old.at) (length into.new)) }
         ensures planned { is_err result ≡ is_planned self.old.plan }
         ensures counts { Counts self.old.plan self.new.plan (is_err result) }
         ensures unfailing { self.old.plan.failing.items ≡ [] → IsOk result }

@@ -2,9 +2,13 @@
 
 use crate::{
     At, BytesSink, BytesSource, Failed, FixedMoments, Gate, KeepError, Keeper, MapKeeper, Moments,
-    OpenGate, Point, Sink, Source, StandardInput, StandardOutput, SystemClock,
+    OpenGate, Point, Sink, Source, StandardInput, StandardOutput, SystemClock, counted, moment_of,
+    read_answer, write_answer,
 };
+use std::io;
+use std::io::ErrorKind;
 use std::test::Fail;
+use std::time::Duration;
 
 #[test]
 fn a_source_gives_its_bytes_but_for_the_planned_call(rt: HostRuntime) -> Result<(), Fail> {
@@ -57,6 +61,18 @@ fn the_gate_is_open_and_the_clock_stands(rt: HostRuntime) {
     };
     OpenGate.pass(&rt, point);
     assert_eq!(rt; FixedMoments(10_000).now(), 10_000);
+}
+
+#[test]
+fn what_the_system_answers_is_told_as_it_is(rt: HostRuntime) {
+    assert_eq!(rt; read_answer(Ok(3)), Ok(3));
+    let failed = read_answer(Err(io::Error::from(ErrorKind::BrokenPipe)));
+    assert_eq!(rt; failed, Err(Failed));
+    assert_eq!(rt; counted(4, &failed), 5);
+    assert_eq!(rt; write_answer(Ok(2), 5), Ok(2));
+    assert_eq!(rt; write_answer(Ok(0), 5), Err(Failed));
+    assert_eq!(rt; moment_of(Some(Duration::from_millis(10_000))), 10_000);
+    assert_eq!(rt; moment_of(None), 0);
 }
 
 #[test]

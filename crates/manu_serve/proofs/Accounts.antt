@@ -1,34 +1,32 @@
 -- Answering line by line.
-use Rattle.std.proofs.Common.{◌≡◌, ℕ, zero, suc, Bool, true, false, ◌&&◌, if◌then◌else◌, codes, Option, None, option_map, option_and_then, Result, Ok, Err, ◌+◌, ◌*◌, ◌<◌, ◌≤◌, min, List, [], ◌∷◌, ◌++◌, map, length, refl, sym, ap, ◌∙◌, subst, arith, Some, add-zero, append-nil, append_assoc, length-append, ◌^◌, ◌-◌}
+use Rattle.std.proofs.Common.{◌≡◌, ◌≢◌, ℕ, suc, Result, Ok, Err, ◌+◌, ◌<◌, ◌≤◌, List, [], ◌∷◌, ◌++◌, map, length, refl, sym, ap, ◌∙◌, subst, arith, Some, add-zero, append-nil, append_assoc, length-append}
 use Rattle.std.specs.List.{AllByRecursion as Each, flat_map}
 use Rattle.hybrid_time.specs.Times.{of_moment}
 use Rattle.coarse_lists.specs.declared.collections.Collection.{Collection}
 use Rattle.answer_lines.specs.declared.reasons.Reason.{Reason}
-use Rattle.answer_lines.specs.declared.answers.Answer.{Answer}
 use Rattle.answer_lines.specs.declared.answers.Answer.TheVariants as answers
 use Rattle.answer_lines.specs.Lines.{text_of}
 use Rattle.request_lines.specs.Headers.{header_of}
 use Rattle.input_lines.specs.Lines.{lines_of, first_line, other_lines, behind_first}
-use Rattle.serde_json.specs.Data.{Data}
 use Rattle.request_lines.specs.declared.requests.Request.{Request}
-use Rattle.request_lines.specs.declared.requests.Ask.{Ask}
-use Rattle.request_lines.specs.Json.{value_of, integer_at, has_only}
-use Rattle.request_lines.specs.Headers.{header_members, creates, dimension_of, collection_of, collection_in}
-use Rattle.request_lines.specs.Requests.{request_of, and_then, json_in, object_in, operation_in, form_in, ask_in, request_in}
+use Rattle.request_lines.specs.Requests.{request_of}
 use Rattle.log_model.proofs.LogLaws.{each-append, each_implied}
 use Rattle.legal_output.specs.Lines.{Asked, Bad, Finish, Line, Start, drawn}
 use Rattle.legal_output.specs.Printed.{all_drawn}
-use Rattle.legal_output.specs.Legal.{Numbered, IsLegal}
+use Rattle.legal_output.specs.Legal.{Numbered}
 use Rattle.legal_output.specs.Outputs.{asks_of, asked_of, start_of, printed, text_of_line, IsLegalOutput}
-use Rattle.legal_output.specs.Runs.{Plain, Serves, Run, begun}
+use Rattle.legal_output.specs.Runs.{Plain, Serves, begun, end_line}
 use Rattle.legal_output.proofs.Grown.{flat_map-push}
-use Rattle.legal_output.proofs.Stands.{run-push, at_start, ran, is_legal}
-use Rattle.manu_serve.specs.Answerings.{asked_in, IsLegalFrom, IsAnswered, Adds, IsPartly}
+use Rattle.legal_output.proofs.Stands.{run-push}
+use Rattle.legal_output.proofs.Alone.{alone_legal}
+use Rattle.manu_serve.specs.Answerings.{asked_in, IsAnswered, Adds, IsPartly}
+use Rattle.manu_serve.specs.Servings.{IsLegalFrom}
 
 -- a line that is no request draws nothing and changes nothing
 pub refused_serves : (start : Start) (plain : Plain) (reason : Reason) → plain.tick < plain.clock → Serves start plain (Bad reason) (answers.Refused reason) plain
 refused_serves start plain reason reached = record {
   alone = tt;
+  plain = tt;
   later = omega arith;
   rising = tt;
   drawn_above = tt;
@@ -36,7 +34,6 @@ refused_serves start plain reason reached = record {
   log = sym (append-nil plain.log);
   mine = refl;
   tick = omega arith;
-  met = λ met h. h;
   told = λ channel. tt;
   reached = reached;
   kind = tt;
@@ -63,6 +60,10 @@ drawn-push : (least : ℕ) (lines : List Line) (line : Line) → Each (λ n. lea
 drawn-push least lines line h k =
     subst (Each (λ n. least ≤ n)) (sym (flat_map-push (λ l. drawn l.answer) lines line)) (each-append (λ n. least ≤ n) (all_drawn lines) (drawn line.answer) h k)
 
+printed_more : (lines : List Line) (line : Line) → printed lines ++ text_of_line line ≡ printed (lines ++ line ∷ [])
+printed_more lines line =
+    append_assoc (text_of 1 answers.Created) (flat_map text_of_line lines) (text_of_line line) ∙ ap (λ l. text_of 1 answers.Created ++ l) (sym (flat_map-push text_of_line lines line))
+
 pub answered_none : (start : Start) (least : ℕ) (output : List ℕ) → output ≡ text_of 1 answers.Created → IsAnswered start least [] output (begun start 1)
 answered_none start least output e = record {
   lines = [];
@@ -84,8 +85,7 @@ answered_more start least number asks asked output text mid new count before mor
       asked = map-push before.lines line ∙ ap (λ l. l ++ asked ∷ []) before.asked;
       numbered = numbered-push 2 before.lines line before.numbered (count ∙ ap (λ n. 2 + n) (sym size));
       text = ap (λ l. l ++ text) before.text ∙ ap (λ l. printed before.lines ++ l) more.printed_as
-          ∙ append_assoc (text_of 1 answers.Created) (flat_map text_of_line before.lines) (text_of number more.answer)
-          ∙ ap (λ l. text_of 1 answers.Created ++ l) (sym (flat_map-push text_of_line before.lines line));
+          ∙ printed_more before.lines line;
       run = run-push start (begun start 1) mid new before.lines line before.run more.serves;
       drawn_from = drawn-push least before.lines line before.drawn_from more.drawn_from;
     }
@@ -128,6 +128,19 @@ partly_line collection least all lines more text number old new mid now cut befo
     subst (λ (o : List ℕ). IsPartly (start_of collection) least all (asked_in collection more) (number + 1) o now) (sym step.1)
     (partly_more (start_of collection) least all (asked_in collection more) (asked_of (request_of collection text)) number old step.0 mid now here step.2)
 
+each-map : {X A : Type 0} (P : A → Type 0) (f : X → A) (xs : List X) → Each P (map f xs) → Each (λ x. P (f x)) xs
+each-map P f [] all = tt
+each-map P f (x ∷ xs) all = (all.0, each-map P f xs all.1)
+
+unfinished_line : (read : Result Request Reason) → asked_of read ≢ Finish
+unfinished_line (Ok request) = λ e. cc
+unfinished_line (Err reason) = λ e. cc
+
+-- no line of the input is its end
+unfinished : (collection : Collection) (lines : List (List ℕ)) → Each (λ asked. asked ≢ Finish) (asked_in collection lines)
+unfinished collection [] = tt
+unfinished collection (line ∷ lines) = (unfinished_line (request_of collection line), unfinished collection lines)
+
 -- all lines and the end are answered
 pub legal_from : (collection : Collection) (least : ℕ) (input old new text : List ℕ) (number : ℕ) (mid now : Plain)
     → header_of (first_line input) ≡ Some collection
@@ -137,15 +150,21 @@ pub legal_from : (collection : Collection) (least : ℕ) (input old new text : L
     → IsLegalFrom least input new
 legal_from collection least input old new text number mid now header partly grown step =
     let start : Start = start_of collection in
+    let block : List Line = partly.answered.lines in
+    let line : Line = end_line number step.answer in
     let all : asked_in collection (other_lines input) ≡ partly.done = partly.split ∙ append-nil partly.done in
-    let last : IsAnswered start least (partly.done ++ Finish ∷ []) (old ++ text) now = answered_more start least number partly.done Finish old text mid now partly.count partly.answered step in
+    let asks : map (λ l. l.asked) block ≡ asked_in collection (other_lines input) = partly.answered.asked ∙ sym all in
+    let size : length block ≡ length partly.done = sym (length-map-asked block) ∙ ap length partly.answered.asked in
+    let numbered : Numbered 2 (block ++ line ∷ []) = numbered-push 2 block line partly.answered.numbered (partly.count ∙ ap (λ n. 2 + n) (sym size)) in
     record {
       collection = collection;
       header = header;
-      lines = last.lines;
-      text = grown ∙ last.text;
-      legal = is_legal start now (asks_of collection input) last.lines (ran start (begun start 1) now [] last.lines (at_start start 1 tt (omega arith)) last.run) last.numbered (last.asked ∙ ap (λ l. l ++ Finish ∷ []) (sym all));
-      drawn_from = last.drawn_from;
+      lines = block ++ line ∷ [];
+      text = grown ∙ ap (λ l. l ++ text) partly.answered.text ∙ ap (λ l. printed block ++ l) step.printed_as ∙ printed_more block line;
+      legal = alone_legal start 1 mid now (asks_of collection input) block number step.answer tt (omega arith) partly.answered.run
+          (each-map (λ asked. asked ≢ Finish) (λ l. l.asked) block (subst (Each (λ asked. asked ≢ Finish)) (sym asks) (unfinished collection (other_lines input))))
+          step.serves numbered (map-push block line ∙ ap (λ l. l ++ Finish ∷ []) asks);
+      drawn_from = drawn-push least block line partly.answered.drawn_from step.drawn_from;
     }
 
 pub legal_output : (least : ℕ) (input output : List ℕ) → IsLegalFrom least input output → IsLegalOutput input output
@@ -164,44 +183,3 @@ of_moment-le a b h = omega arith
 
 pub drawn_later : (a b : ℕ) (ns : List ℕ) → a ≤ b → Each (λ n. of_moment b ≤ n) ns → Each (λ n. of_moment a ≤ n) ns
 drawn_later a b ns h = each_implied (λ n. of_moment b ≤ n) (λ n. of_moment a ≤ n) (λ n k. omega (arith, of_moment-le a b h, k)) ns
-
--- ---- what a line that is read is known to be
-
-then_ok : {T U : Type 0} (r : Result T Reason) (next : T → Result U Reason) (P : U → Type 0) → ((x : T) (y : U) → next x ≡ Ok y → P y) → (y : U) → and_then r next ≡ Ok y → P y
-then_ok (Ok x) next P f y e = f x y e
-then_ok (Err reason) next P f y e = cc
-
-same_caller : (ask : Ask) (r : Request) → ◌≡◌ {A = Result Request Reason} (Ok (record { caller = 0; what = ask })) (Ok r) → r.caller ≡ 0
-same_caller ask r e = cc
-
-request_alone : (collection : Collection) (d : Data) (request : Request) → request_in collection d ≡ Ok request → request.caller ≡ 0
-request_alone collection d request =
-    then_ok (and_then (operation_in d) (form_in d)) (λ operation. and_then (ask_in collection d operation) (λ ask. Ok (record { caller = 0; what = ask }))) (λ r. r.caller ≡ 0)
-    (λ operation. then_ok (ask_in collection d operation) (λ ask. Ok (record { caller = 0; what = ask })) (λ r. r.caller ≡ 0) same_caller)
-    request
-
-object_alone : (collection : Collection) (d : Data) (request : Request) → and_then (object_in d) (request_in collection) ≡ Ok request → request.caller ≡ 0
-object_alone collection d request = then_ok (object_in d) (request_in collection) (λ r. r.caller ≡ 0) (request_alone collection) request
-
-pub caller_alone : (collection : Collection) (bytes : List ℕ) (request : Request) → request_of collection bytes ≡ Ok request → request.caller ≡ 0
-caller_alone collection bytes request = then_ok (json_in bytes) (λ d. and_then (object_in d) (request_in collection)) (λ r. r.caller ≡ 0) (object_alone collection) request
-
--- the channels of a collection that is there
-abbrev channels_or : Option Collection → ℕ
-channels_or None = 1
-channels_or (Some collection) = collection.channels
-
-one_channel_of : (o : Option ℕ) (collection : Collection) → option_map collection_of o ≡ Some collection → collection.channels ≡ 1
-one_channel_of None collection e = cc
-one_channel_of (Some dim) collection e = sym (ap (λ o. channels_or o) e)
-
-one_channel_if : (b : Bool) (o : Option ℕ) (collection : Collection) → (if b then option_map collection_of o else None) ≡ Some collection → collection.channels ≡ 1
-one_channel_if true o collection e = one_channel_of o collection e
-one_channel_if false o collection e = cc
-
-one_channel_in : (o : Option Data) (collection : Collection) → option_and_then collection_in o ≡ Some collection → collection.channels ≡ 1
-one_channel_in None collection e = cc
-one_channel_in (Some d) collection e = one_channel_if (has_only header_members d && creates d) (option_and_then dimension_of (integer_at (codes "dim") d)) collection e
-
-pub one_channel : (bytes : List ℕ) (collection : Collection) → header_of bytes ≡ Some collection → collection.channels ≡ 1
-one_channel bytes collection e = one_channel_in (value_of bytes) collection e

@@ -1,9 +1,10 @@
 -- What the first bytes of an input already say.
-use Rattle.std.proofs.Common.{◌≡◌, ◌≢◌, ◌⊎◌, inl, inr, ℕ, zero, suc, ◌+◌, ◌<◌, ◌≤◌, List, [], ◌∷◌, ◌++◌, length, length-take, get_or, take, drop, take_all, length-drop, ◌-◌, ap, sym, ◌∙◌, subst, arith, Option, Some, None, IsSome, append-nil, append_assoc, refl, ◌↔◌, length-append}
+use Rattle.std.proofs.Common.{◌≡◌, ◌≢◌, ◌⊎◌, inl, inr, ℕ, zero, suc, ◌+◌, ◌<◌, ◌≤◌, List, [], ◌∷◌, ◌++◌, length, length-take, get_or, take, drop, take_all, length-drop, ◌-◌, ap, sym, ◌∙◌, subst, arith, Option, Some, None, IsSome, IfSome, Result, Ok, Err, IfOk, IfErr, append-nil, append_assoc, refl, ◌↔◌, length-append}
 use Rattle.std.specs.Io.KnownBytes.{Consumes, Keeps, IsAtEnd, Appends}
 use Rattle.std.proofs.Math.Seq.{take-add}
 use Rattle.coarse_lists.specs.Collections.{IsInRange}
 use Rattle.manu_edge.specs.Faults.{Rose}
+use Rattle.manu_serve.specs.declared.reading.Input.{Input}
 use Rattle.manu_serve.specs.declared.reading.ReadError.{ReadError}
 use Rattle.manu_serve.specs.declared.reading.ReadError.TheVariants.{BadHeader, Fault, Limit, Memory}
 use Rattle.std.proofs.lemmas.List.{get_or-take, length-take-le}
@@ -14,7 +15,8 @@ use Rattle.input_lines.specs.declared.limits.TheConstants.{MAX_INPUT, MAX_LINE, 
 use Rattle.input_lines.specs.Lines.{lines_of, first_line, first_or_empty}
 use Rattle.input_lines.specs.Limits.{IsShort, HasFewLines, IsWithin, LimitsBehind}
 use Rattle.input_lines.proofs.Cuts.{lines_of-open, first_line-ended, first_line-open, first_line-longer}
-use Rattle.manu_serve.specs.Readings.{HasBadHeader, PassesLimit, HasReadCause, EndsReading, EndedReading, IsOpen, KnowsHeader, IsSoFar}
+use Rattle.manu_serve.specs.Events.{HasBadHeader, PassesLimit, IsOpen, GoesOn}
+use Rattle.manu_serve.specs.Readings.{IsRead, HasReadCause, EndsReading, EndedReading, KnowsHeader, IsSoFar}
 
 pub first_is_short : (lines : List (List ℕ)) → AllByRecursion IsShort lines → IsShort (first_or_empty lines)
 first_is_short [] h = omega arith
@@ -67,6 +69,16 @@ last_line bytes o unended e = ap header_of (first_line-open bytes unended) ∙ e
 pub last_refused : (error : ReadError) (bytes : List ℕ) → IsOpen bytes → (error ≡ Memory) ⊎ ((error ≡ BadHeader) × (header_of bytes ≡ None)) → (error ≡ Memory) ⊎ ((error ≡ BadHeader) × (header_of (first_line bytes) ≡ None))
 last_refused error bytes unended why = elim why [ inl e ↦ inl e | inr h ↦ inr (h.0, last_line bytes None unended h.1) ]
 
+-- the same, of an answer that is handed on
+pub last_ok : (r : Result Collection ReadError) (bytes : List ℕ) → IsOpen bytes → IfOk r (λ collection. header_of bytes ≡ Some collection) → IfOk r (λ collection. header_of (first_line bytes) ≡ Some collection)
+last_ok (Ok collection) bytes unended e = last_line bytes (Some collection) unended e
+last_ok (Err error) bytes unended e = tt
+
+pub last_err : (r : Result Collection ReadError) (bytes : List ℕ) → IsOpen bytes → IfErr r (λ error. (error ≡ Memory) ⊎ ((error ≡ BadHeader) × (header_of bytes ≡ None)))
+    → IfErr r (λ error. (error ≡ Memory) ⊎ ((error ≡ BadHeader) × (header_of (first_line bytes) ≡ None)))
+last_err (Ok collection) bytes unended why = tt
+last_err (Err error) bytes unended why = last_refused error bytes unended why
+
 -- the limits on lines hold of what was read, where they are kept behind it
 pub kept_now : (bytes : List ℕ) (lines : ℕ) (current : Option ℕ) (found : Option Collection) → lines ≤ MAX_LINES → IsSoFar bytes lines current found → IsWithin bytes
 kept_now bytes lines None found few so_far =
@@ -74,15 +86,29 @@ kept_now bytes lines None found few so_far =
 kept_now bytes lines (Some n) found few so_far =
     record { bytes = so_far.size; lines = subst HasFewLines (append-nil bytes) ((so_far.limits []).1 tt) }
 
+pub is_some_of : {T : Type 0} (o : Option T) (x : T) → o ≡ Some x → IsSome o
+is_some_of o x e = rw e refl
+
+pub known_now : (bytes : List ℕ) (collection : Collection) → KnowsHeader bytes (Some collection) → header_of (first_line bytes) ≡ Some collection
+known_now bytes collection known = subst (λ (l : List ℕ). header_of (first_line l) ≡ Some collection) (append-nil bytes) (known.0 [])
+
+-- nothing that was read ended the reading
+goes_header : (bytes : List ℕ) (found : Option Collection) → KnowsHeader bytes found → IsOpen bytes ⊎ IsSome (header_of (first_line bytes))
+goes_header bytes None known = inl known
+goes_header bytes (Some collection) known = inr (is_some_of _ collection (known_now bytes collection known))
+
+pub goes_on : (bytes : List ℕ) (lines : ℕ) (current : Option ℕ) (found : Option Collection) → lines ≤ MAX_LINES → IsSoFar bytes lines current found → GoesOn bytes
+goes_on bytes lines current found few so_far = record {
+  within = kept_now bytes lines current found few so_far;
+  header = goes_header bytes found so_far.header;
+}
+
 few_open : (bytes : List ℕ) → IsOpen bytes → length bytes ≤ MAX_LINE → HasFewLines bytes
 few_open [] unended fits = (tt, omega arith)
 few_open (b ∷ bytes) unended fits = rw (lines_of-open (b ∷ bytes) (omega arith) unended) ((fits, tt), omega arith)
 
 open_long : (bytes : List ℕ) → IsOpen bytes → (HasFewLines bytes → ⊥) → MAX_LINE < length bytes
 open_long bytes unended over = let short : length bytes ≤ MAX_LINE → ⊥ = λ fits. over (few_open bytes unended fits) in omega (arith, short)
-
-pub is_some_of : {T : Type 0} (o : Option T) (x : T) → o ≡ Some x → IsSome o
-is_some_of o x e = rw e refl
 
 -- where a line or their number passes a limit, line 1 is too long itself or makes a collection
 pub over_lines : (bytes : List ℕ) (found : Option Collection) → KnowsHeader bytes found → ((rest : List ℕ) → HasFewLines (bytes ++ rest) → ⊥) → (rest : List ℕ) → PassesLimit (bytes ++ rest)
@@ -97,9 +123,6 @@ over_bytes bytes None unended over rest =
     record { past = λ w. omega (arith, w.bytes, length-append bytes rest); header = λ short. absurd (omega (arith, short, first_line-longer bytes rest unended)) }
 over_bytes bytes (Some collection) known over rest =
     record { past = λ w. omega (arith, w.bytes, length-append bytes rest); header = λ short. is_some_of _ collection (known.0 rest) }
-
-pub known_now : (bytes : List ℕ) (collection : Collection) → KnowsHeader bytes (Some collection) → header_of (first_line bytes) ≡ Some collection
-known_now bytes collection known = subst (λ (l : List ℕ). header_of (first_line l) ≡ Some collection) (append-nil bytes) (known.0 [])
 
 -- what was known of the first bytes is known of more
 pub known_longer : (bytes piece : List ℕ) (collection : Collection) → KnowsHeader bytes (Some collection) → KnowsHeader (bytes ++ piece) (Some collection)
@@ -156,29 +179,69 @@ written_more a b c bytes at n h k =
     let piece : Appends b c (take n (drop at bytes)) = subst (λ (l : List ℕ). Appends b c (take n l)) all k in
     subst (λ (l : List ℕ). Appends a c l) (sym (take-add at n bytes)) (appended_more a b c (take at bytes) (take n (drop at bytes)) h piece)
 
-pub ends_cause : (error : ReadError) (a c : Option (List ℕ)) (bytes : List ℕ) (before now : ℕ) → EndsReading error bytes → Consumes a c bytes → HasReadCause error a before now
-ends_cause BadHeader None c bytes before now h k = tt
-ends_cause BadHeader (Some xs) None bytes before now h k = absurd k
-ends_cause BadHeader (Some xs) (Some ys) bytes before now h k = subst HasBadHeader (sym k) (h ys)
-ends_cause Limit None c bytes before now h k = tt
-ends_cause Limit (Some xs) None bytes before now h k = absurd k
-ends_cause Limit (Some xs) (Some ys) bytes before now h k = subst PassesLimit (sym k) (h ys)
-ends_cause Fault a c bytes before now h k = absurd h
-ends_cause Memory a c bytes before now h k = tt
+told : (P : List ℕ → Type 0) (a c : Option (List ℕ)) (bytes : List ℕ) → ((rest : List ℕ) → P (bytes ++ rest)) → Consumes a c bytes → IfSome a P
+told P None c bytes h k = tt
+told P (Some xs) None bytes h k = absurd k
+told P (Some xs) (Some ys) bytes h k = subst P (sym k) (h ys)
+
+told_ended : (P : List ℕ → Type 0) (a c : Option (List ℕ)) (bytes : List ℕ) → P bytes → Consumes a c bytes → IsAtEnd c → IfSome a P
+told_ended P None c bytes h k e = tt
+told_ended P (Some xs) None bytes h k e = absurd k
+told_ended P (Some xs) (Some ys) bytes h k e = subst P (sym (k ∙ ap (λ l. bytes ++ l) e ∙ append-nil bytes)) h
+
+-- the reading ended in a piece
+pub ends_cause : (error : ReadError) (a c : Option (List ℕ)) (front piece : List ℕ) (before now : ℕ)
+    → EndsReading error (front ++ piece) → Consumes a c (front ++ piece) → GoesOn front → length piece ≤ 262_144 → HasReadCause error a c before now
+ends_cause BadHeader a c front piece before now h k on small =
+    (told HasBadHeader a c (front ++ piece) h k, record { front = front; piece = piece; consumed = k; goes_on = on; small = small })
+ends_cause Limit a c front piece before now h k on small =
+    (told PassesLimit a c (front ++ piece) h k, record { front = front; piece = piece; consumed = k; goes_on = on; small = small })
+ends_cause Fault a c front piece before now h k on small = absurd h
+ends_cause Memory a c front piece before now h k on small = tt
 
 pub ended_of : (error : ReadError) (bytes : List ℕ) → IsShort (first_line bytes) → (error ≡ Memory) ⊎ ((error ≡ BadHeader) × (header_of (first_line bytes) ≡ None)) → EndedReading error bytes
 ended_of error bytes short why = elim why [ inl e ↦ rw e tt | inr h ↦ rw h.0 (record { short = short; none = h.1 }) ]
 
-pub ended_cause : (error : ReadError) (a c : Option (List ℕ)) (bytes : List ℕ) (before now : ℕ) → EndedReading error bytes → Consumes a c bytes → IsAtEnd c → HasReadCause error a before now
-ended_cause BadHeader None c bytes before now h k e = tt
-ended_cause BadHeader (Some xs) None bytes before now h k e = absurd k
-ended_cause BadHeader (Some xs) (Some ys) bytes before now h k e = subst HasBadHeader (sym (k ∙ ap (λ l. bytes ++ l) e ∙ append-nil bytes)) h
-ended_cause Limit a c bytes before now h k e = absurd h
-ended_cause Fault a c bytes before now h k e = absurd h
-ended_cause Memory a c bytes before now h k e = tt
+-- the reading ended with the input
+pub ended_cause : (error : ReadError) (a c : Option (List ℕ)) (bytes : List ℕ) (before now : ℕ)
+    → EndedReading error bytes → Consumes a c bytes → IsAtEnd c → GoesOn bytes → HasReadCause error a c before now
+ended_cause BadHeader a c bytes before now h k e on = (
+  told_ended HasBadHeader a c bytes h k e,
+  record {
+    front = bytes;
+    piece = [];
+    consumed = subst (λ (l : List ℕ). Consumes a c l) (sym (append-nil bytes)) k;
+    goes_on = on;
+    small = omega arith;
+  },
+)
+ended_cause Limit a c bytes before now h k e on = absurd h
+ended_cause Fault a c bytes before now h k e on = absurd h
+ended_cause Memory a c bytes before now h k e on = tt
+
+-- what is handed on where the input has come to its end
+pub ended_read : (r : Result Input ReadError) (a c : Option (List ℕ)) (bytes : List ℕ) → Consumes a c bytes → IsAtEnd c
+    → IfOk r (λ input. input.bytes.items ≡ bytes) → IfOk r (λ input. IsWithin input.bytes.items) → IfOk r (λ input. header_of (first_line input.bytes.items) ≡ Some input.collection)
+    → IfOk r (λ input. IsInRange input.collection) → IfOk r (λ input. IsRead a c input.bytes.items input.collection)
+ended_read (Ok input) a c bytes k e same within header in_range = record {
+  consumed = subst (λ (l : List ℕ). Consumes a c l) (sym same) k;
+  ended = e;
+  within = within;
+  header = header;
+  in_range = in_range;
+}
+ended_read (Err error) a c bytes k e same within header in_range = tt
+
+pub ended_error : (r : Result Input ReadError) (a c : Option (List ℕ)) (bytes : List ℕ) (before now : ℕ) → IfErr r (λ error. EndedReading error bytes) → Consumes a c bytes → IsAtEnd c → GoesOn bytes
+    → IfErr r (λ error. HasReadCause error a c before now)
+ended_error (Ok input) a c bytes before now h k e on = tt
+ended_error (Err error) a c bytes before now h k e on = ended_cause error a c bytes before now h k e on
 
 rose_earlier : (before mid now : ℕ) → Rose mid now → before ≤ mid → Rose before now
 rose_earlier before mid now h later = omega arith
 
-pub fault_cause : (error : ReadError) (a : Option (List ℕ)) (before mid now : ℕ) → (error ≡ Fault) × Rose mid now → before ≤ mid → HasReadCause error a before now
-fault_cause error a before mid now h later = rw h.0 (rose_earlier before mid now h.1 later)
+-- the source failed behind these bytes
+pub fault_cause : (error : ReadError) (a c : Option (List ℕ)) (bytes : List ℕ) (before mid now : ℕ)
+    → (error ≡ Fault) × Rose mid now → before ≤ mid → Consumes a c bytes → GoesOn bytes → HasReadCause error a c before now
+fault_cause error a c bytes before mid now h later k on =
+    rw h.0 (rose_earlier before mid now h.1 later, record { taken = bytes; consumed = k; goes_on = on })

@@ -1,30 +1,19 @@
--- What is kept while an input is answered line by line, and what the output then is.
-use Rattle.std.specs.Prelude.{◌≡◌, ℕ, ◌+◌, ◌≤◌, List, [], ◌∷◌, ◌++◌, map, length, Some}
+-- This file promises nothing: it says what is kept while an input is answered line by line.
+use Rattle.std.specs.Prelude.{◌≡◌, ℕ, ◌+◌, ◌≤◌, List, ◌++◌, map, length}
 use Rattle.std.specs.List.{AllByRecursion as Each}
 use Rattle.coarse_lists.specs.declared.collections.Collection.{Collection}
 use Rattle.answer_lines.specs.declared.answers.Answer.{Answer}
 use Rattle.answer_lines.specs.Lines.{text_of}
-use Rattle.request_lines.specs.Headers.{header_of}
 use Rattle.request_lines.specs.Requests.{request_of}
-use Rattle.input_lines.specs.Lines.{first_line}
 use Rattle.legal_output.specs.Lines.{Asked, Line, Start, drawn}
 use Rattle.legal_output.specs.Printed.{all_drawn}
-use Rattle.legal_output.specs.Legal.{Numbered, IsLegal}
-use Rattle.legal_output.specs.Outputs.{asked_of, asks_of, start_of, printed}
+use Rattle.legal_output.specs.Legal.{Numbered}
+use Rattle.legal_output.specs.Outputs.{asked_of, printed}
 use Rattle.legal_output.specs.Runs.{Plain, Serves, Run, begun}
 
 -- what each of some lines asks
 abbrev pub asked_in : Collection → List (List ℕ) → List Asked
 asked_in collection lines = map (λ line. asked_of (request_of collection line)) lines
-
--- a legal output whose drawn numbers are none of them below `least`
-pub record IsLegalFrom (least : ℕ) (input output : List ℕ) : Type 0 where
-  pub collection : Collection
-  pub header : header_of (first_line input) ≡ Some collection
-  pub lines : List Line
-  pub text : output ≡ printed lines
-  pub legal : IsLegal (start_of collection) (asks_of collection input) lines
-  pub drawn_from : Each (λ n. least ≤ n) (all_drawn lines)
 
 -- the output so far, and the lines and the run that stand behind it
 pub record IsAnswered (start : Start) (least : ℕ) (asks : List Asked) (output : List ℕ) (now : Plain) : Type 0 where

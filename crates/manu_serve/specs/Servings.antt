@@ -1,8 +1,15 @@
 -- What a run promises, by how it ends.
-use Rattle.std.specs.Prelude.{◌≡◌, ◌⊎◌, ℕ, List, [], ◌∷◌, codes, take, Option, IfSome}
+use Rattle.std.specs.Prelude.{◌≡◌, ◌⊎◌, ℕ, ◌≤◌, List, [], ◌∷◌, codes, take, Option, Some, IsSome, IfSome}
+use Rattle.std.specs.List.{AllByRecursion as Each}
 use Rattle.std.specs.Io.KnownBytes.{Appends}
-use Rattle.legal_output.specs.Outputs.{IsLegalOutput}
-use Rattle.manu_serve.specs.Answerings.{IsLegalFrom}
+use Rattle.coarse_lists.specs.declared.collections.Collection.{Collection}
+use Rattle.request_lines.specs.Headers.{header_of}
+use Rattle.input_lines.specs.Lines.{first_line}
+use Rattle.input_lines.specs.Limits.{IsWithin}
+use Rattle.legal_output.specs.Lines.{Line}
+use Rattle.legal_output.specs.Printed.{all_drawn}
+use Rattle.legal_output.specs.Legal.{IsLegal}
+use Rattle.legal_output.specs.Outputs.{asks_of, start_of, printed}
 
 abbrev pub running : List (List ℕ)
 running = codes "run" ∷ []
@@ -14,14 +21,25 @@ still = codes "run" ∷ codes "--still" ∷ []
 abbrev pub IsForm : List (List ℕ) → Type 0
 IsForm words = (words ≡ running) ⊎ (words ≡ still)
 
--- what was written is legal for what was left to read
-abbrev pub WritesLegal : Option (List ℕ) → Option (List ℕ) → Option (List ℕ) → Type 0
-WritesLegal left before now = IfSome left (λ input. (output : List ℕ) × IsLegalOutput input output × Appends before now output)
+-- the source tells an input that keeps the limits and whose line 1 makes a collection
+pub record TellsGood (left : Option (List ℕ)) (input : List ℕ) : Type 0 where
+  pub told : left ≡ Some input
+  pub within : IsWithin input
+  pub header : IsSome (header_of (first_line input))
 
--- the same, and no drawn number is below `least`
-abbrev pub WritesLegalFrom : ℕ → Option (List ℕ) → Option (List ℕ) → Option (List ℕ) → Type 0
-WritesLegalFrom least left before now = IfSome left (λ input. (output : List ℕ) × IsLegalFrom least input output × Appends before now output)
+-- a legal output whose drawn numbers are none of them below `least`
+pub record IsLegalFrom (least : ℕ) (input output : List ℕ) : Type 0 where
+  pub collection : Collection
+  pub header : header_of (first_line input) ≡ Some collection
+  pub lines : List Line
+  pub text : output ≡ printed lines
+  pub legal : IsLegal (start_of collection) (asks_of collection input) lines
+  pub drawn_from : Each (λ n. least ≤ n) (all_drawn lines)
 
--- what was written is the beginning of a legal output
-abbrev pub WritesFront : Option (List ℕ) → Option (List ℕ) → Option (List ℕ) → Type 0
-WritesFront left before now = IfSome left (λ input. (output : List ℕ) × IsLegalOutput input output × ((n : ℕ) × Appends before now (take n output)))
+-- what was written is such an output for what was left to read, where P says which
+abbrev pub WritesAll : (List ℕ → List ℕ → Type 0) → Option (List ℕ) → Option (List ℕ) → Option (List ℕ) → Type 0
+WritesAll P left before now = IfSome left (λ input. (output : List ℕ) × P input output × Appends before now output)
+
+-- what was written is the beginning of such an output
+abbrev pub WritesFront : (List ℕ → List ℕ → Type 0) → Option (List ℕ) → Option (List ℕ) → Option (List ℕ) → Type 0
+WritesFront P left before now = IfSome left (λ input. (output : List ℕ) × P input output × ((n : ℕ) × Appends before now (take n output)))

@@ -13,8 +13,9 @@ ghost use Rattle.legal_output.specs.Lines.{drawn};
 ghost use Rattle.legal_output.specs.Runs.{Serves};
 ghost use Rattle.legal_output.specs.Outputs.{asked_of, start_of};
 ghost use Rattle.plain_run.specs.Accounts.{plain_of, IsRunOf};
-ghost use Rattle.manu_serve.specs.Answerings.{asked_in, IsLegalFrom, Adds, IsPartly};
+ghost use Rattle.manu_serve.specs.Answerings.{asked_in, Adds, IsPartly};
 ghost use Rattle.manu_serve.specs.Paces.{least_of};
+ghost use Rattle.manu_serve.specs.Servings.{IsLegalFrom};
 
 use crate::reading::Input;
 use crate::words::Pace;
@@ -70,8 +71,11 @@ fn answer_lines<M: Moments>(
     requires in_range { IsInRange collection.now }
     requires run { IsRunOf collection.now run.old }
     requires clock { (plain_of run.old).clock ≤ 2 ^ 63 }
-    requires begun { IsPartly (start_of collection.now) (of_moment (least_of pace (M.least moments.now))) (asked_in collection.now (lines_of lines.now)) (asked_in collection.now (lines_of lines.now)) 2 output.old.items (plain_of run.old) }
-    ensures answered { IfOk result (λ number. IsPartly (start_of collection.now) (of_moment (least_of pace (M.least moments.now))) (asked_in collection.now (lines_of lines.now)) [] number output.new.items (plain_of run.new)) }
+    requires begun { let asks = asked_in collection.now (lines_of lines.now) in
+        IsPartly (start_of collection.now) (of_moment (least_of pace (M.least moments.now))) asks asks 2 output.old.items (plain_of run.old) }
+    ensures answered { let asks = asked_in collection.now (lines_of lines.now) in
+        let least = of_moment (least_of pace (M.least moments.now)) in
+        IfOk result (λ number. IsPartly (start_of collection.now) least asks [] number output.new.items (plain_of run.new)) }
     ensures room { OnOk result ((plain_of run.new).clock + 3 < 2 ^ 64) }
     ensures number { IfOk result (λ number. number < 2 ^ 21) }
 {
@@ -99,33 +103,40 @@ fn answer_one<M: Moments>(
     requires in_range { IsInRange collection.now }
     requires run { IsRunOf collection.now run.old }
     requires room { (plain_of run.old).clock + 3 < 2 ^ 64 }
-    ensures text { OnOk result ((line : List ℕ) × (output.new.items ≡ output.old.items ++ line) × Adds (start_of collection.now) (of_moment (least_of pace (M.least moments.now))) number (asked_of (request_of collection.now text.now)) (plain_of run.old) (plain_of run.new) line) }
+    ensures text { let least = of_moment (least_of pace (M.least moments.now)) in
+        let asked = asked_of (request_of collection.now text.now) in
+        OnOk result (
+        (line : List ℕ) × (output.new.items ≡ output.old.items ++ line)
+        × Adds (start_of collection.now) least number asked (plain_of run.old) (plain_of run.new) line
+        ) }
     ensures run { IsRunOf collection.now run.new }
     ensures clock { (plain_of run.new).clock ≤ max (plain_of run.old).clock (2 ^ 63) + 3 }
 {
-    let answer = answer_of(alloc, collection, text, moment(pace, moments), run)?;
+    let answer = answer_of(alloc, collection, text, pace, moments, run)?;
     append_line(alloc, number, &answer, output)?;
     Ok(())
 }
 
-// The answer to a line, where its request begins at this moment.
-fn answer_of(
+// The answer to a line. A request begins at the moment of now; a line that is none reads no moment.
+fn answer_of<M: Moments>(
     alloc: Global,
     collection: &Collection,
     text: &[u8],
-    moment: u64,
+    pace: Pace,
+    moments: &M,
     run: &mut PlainRun,
 ) -> Result<Answer, Memory>
     requires in_range { IsInRange collection.now }
     requires run { IsRunOf collection.now run.old }
     requires room { (plain_of run.old).clock + 3 < 2 ^ 64 }
-    ensures serves { IfOk result (λ answer. Serves (start_of collection.now) (plain_of run.old) (asked_of (request_of collection.now text.now)) answer (plain_of run.new)) }
-    ensures moments { IfOk result (λ answer. AllByRecursion (λ n. of_moment moment ≤ n) (drawn answer)) }
+    ensures serves { let asked = asked_of (request_of collection.now text.now) in
+        IfOk result (λ answer. Serves (start_of collection.now) (plain_of run.old) asked answer (plain_of run.new)) }
+    ensures moments { IfOk result (λ answer. AllByRecursion (λ n. of_moment (least_of pace (M.least moments.now)) ≤ n) (drawn answer)) }
     ensures run { IsRunOf collection.now run.new }
     ensures clock { (plain_of run.new).clock ≤ max (plain_of run.old).clock (2 ^ 63) + 3 }
 {
     match read_line(alloc, text, collection) {
-        Ok(request) => run.serve(alloc, collection, request, moment),
+        Ok(request) => run.serve(alloc, collection, request, moment(pace, moments)),
         Err(LineError::Refused(reason)) => Ok(Answer::Refused(reason)),
         Err(LineError::Memory) => Err(Memory),
     }

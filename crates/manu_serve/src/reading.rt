@@ -1,13 +1,14 @@
 //! Reading an input to its end, or to the first event that ends it.
 
-ghost use Rattle.std.specs.Prelude.{◌≡◌, ◌⊎◌, ℕ, List, [], ◌++◌, ◌+◌, ◌≤◌, ◌<◌, length, take, IfOk, IfErr, OnErr, Some, None};
+ghost use Rattle.std.specs.Prelude.{◌≡◌, ◌⊎◌, [], ◌++◌, ◌+◌, ◌≤◌, ◌<◌, length, take, IfOk, IfErr, OnErr, Some, None};
 ghost use Rattle.std.specs.Io.KnownBytes.{Consumes, IsAtEnd, Keeps};
 ghost use Rattle.input_lines.specs.Lines.{first_line};
 ghost use Rattle.input_lines.specs.Limits.{IsWithin};
 ghost use Rattle.coarse_lists.specs.Collections.{IsInRange};
 ghost use Rattle.request_lines.specs.Headers.{header_of};
 ghost use Rattle.manu_edge.specs.Faults.{Rose};
-ghost use Rattle.manu_serve.specs.Readings.{IsRead, HasReadCause, EndsReading, EndedReading, IsOpen, KnowsHeader, IsSoFar};
+ghost use Rattle.manu_serve.specs.Events.{IsOpen, TakesAtMost};
+ghost use Rattle.manu_serve.specs.Readings.{IsRead, HasReadCause, EndsReading, EndedReading, KnowsHeader, IsSoFar};
 
 use coarse_lists::Collection;
 use input_lines::{MAX_INPUT, MAX_LINE, Progress, find_end};
@@ -39,13 +40,14 @@ pub struct Input {
 }
 
 /// Reads all that a source has left. The first event in the order of the bytes ends it: that line 1
-/// has ended and makes no collection, that a limit is passed, that the source fails, or the end. At
-/// most one byte more than an input may have is taken.
+/// has ended and makes no collection, that a limit is passed, that the source fails, or the end.
+/// Nothing is taken behind the piece in which it stands, and at most one byte more than an input may
+/// have.
 pub fn read_input<S: Source>(alloc: Global, source: &mut S) -> Result<Input, ReadError>
     ensures later { S.faults source.old ≤ S.faults source.new }
-    ensures bounded { (piece : List ℕ) × Consumes (S.left source.old) (S.left source.new) piece × (length piece ≤ MAX_INPUT + 1) }
+    ensures bounded { TakesAtMost 67_108_865 (S.left source.old) (S.left source.new) }
     ensures read { IfOk result (λ input. IsRead (S.left source.old) (S.left source.new) input.bytes.items input.collection) }
-    ensures cause { IfErr result (λ error. HasReadCause error (S.left source.old) (S.faults source.old) (S.faults source.new)) }
+    ensures cause { IfErr result (λ error. HasReadCause error (S.left source.old) (S.left source.new) (S.faults source.old) (S.faults source.new)) }
 {
     match vec![in alloc; 0u8; PIECE] {
         Ok(mut buffer) => read_pieces(alloc, source, &mut buffer),
@@ -59,28 +61,20 @@ fn read_pieces<S: Source>(
     source: &mut S,
     buffer: &mut [u8],
 ) -> Result<Input, ReadError>
-    requires { 0 < length buffer.old }
+    requires some { 0 < length buffer.old }
+    requires small { length buffer.old ≤ PIECE }
     ensures later { S.faults source.old ≤ S.faults source.new }
-    ensures bounded { (piece : List ℕ) × Consumes (S.left source.old) (S.left source.new) piece × (length piece ≤ MAX_INPUT + 1) }
+    ensures bounded { TakesAtMost 67_108_865 (S.left source.old) (S.left source.new) }
     ensures read { IfOk result (λ input. IsRead (S.left source.old) (S.left source.new) input.bytes.items input.collection) }
-    ensures cause { IfErr result (λ error. HasReadCause error (S.left source.old) (S.faults source.old) (S.faults source.new)) }
+    ensures cause { IfErr result (λ error. HasReadCause error (S.left source.old) (S.left source.new) (S.faults source.old) (S.faults source.new)) }
 {
     let mut reading = Reading::start(alloc);
     'pieces: loop {
-        let count = match read_piece(source, buffer, reading.bytes.len()) {
-            Ok(count) => count,
-            Err(error) => return Err(error),
-        };
+        let count = read_piece(source, buffer, reading.bytes.len())?;
         if count == 0 {
-            return match reading.finish(alloc) {
-                Ok(input) => Ok(input),
-                Err(error) => Err(error),
-            };
+            return reading.finish(alloc);
         }
-        reading = match reading.take(alloc, &buffer[..count]) {
-            Ok(next) => next,
-            Err(error) => return Err(error),
-        };
+        reading = reading.take(alloc, &buffer[..count])?;
     }
 }
 
@@ -135,14 +129,8 @@ impl Reading {
             header,
         } = self;
         let from = bytes.len();
-        let all = match extended(bytes, piece) {
-            Ok(all) => all,
-            Err(error) => return Err(error),
-        };
-        let header = match find_header(alloc, header, &all, from) {
-            Ok(header) => header,
-            Err(error) => return Err(error),
-        };
+        let all = extended(bytes, piece)?;
+        let header = find_header(alloc, header, &all, from)?;
         let Ok(progress) = progress.walk(piece) else {
             return Err(ReadError::Limit);
         };
@@ -170,10 +158,8 @@ impl Reading {
             progress: _,
             header,
         } = self;
-        match last_header(alloc, header, &bytes) {
-            Ok(collection) => Ok(Input { bytes, collection }),
-            Err(error) => Err(error),
-        }
+        let collection = last_header(alloc, header, &bytes)?;
+        Ok(Input { bytes, collection })
     }
 }
 
@@ -221,10 +207,8 @@ fn first_header(alloc: Global, bytes: &[u8], from: usize) -> Result<Option<Colle
     if end > MAX_LINE as usize {
         return Err(ReadError::Limit);
     }
-    match header_of_line(alloc, &bytes[..end]) {
-        Ok(collection) => Ok(Some(collection)),
-        Err(error) => Err(error),
-    }
+    let collection = header_of_line(alloc, &bytes[..end])?;
+    Ok(Some(collection))
 }
 
 // The collection of line 1, once the input has come to its end.
@@ -240,10 +224,7 @@ fn last_header(
 {
     match header {
         Some(collection) => Ok(collection),
-        None => match header_of_line(alloc, bytes) {
-            Ok(collection) => Ok(collection),
-            Err(error) => Err(error),
-        },
+        None => header_of_line(alloc, bytes),
     }
 }
 

@@ -1,9 +1,6 @@
 //! Runs that end well.
 
-use crate::runs::{joined, still};
-use manu_serve::Status;
-use std::alloc::Global;
-use std::process::Abort;
+use crate::runs::check;
 use std::test::Fail;
 
 const CREATE: &str = "{\"op\":\"create\",\"dim\":8}";
@@ -13,14 +10,6 @@ const CREATED: &str = "{\"answer\":\"created\",\"line\":1}";
 const INSERT: &str = "{\"op\":\"insert\",\"key\":1,\"vector\":\"0f\"}";
 
 const STRONG: &str = "{\"op\":\"search\",\"vector\":\"0f\",\"k\":1,\"level\":\"Strong\"}";
-
-fn check(rt: &impl Abort, alloc: Global, input: &[&str], output: &[&str]) -> Result<(), Fail> {
-    let (status, written) = still(alloc, input)?;
-    assert_eq!(rt; status, Status::Done);
-    let wanted = joined(alloc, output)?;
-    assert_eq!(rt; written.as_slice(), wanted.as_slice());
-    Ok(())
-}
 
 #[test]
 fn a_write_is_found_by_a_strong_search(rt: HostRuntime) -> Result<(), Fail> {

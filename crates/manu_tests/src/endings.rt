@@ -1,8 +1,11 @@
 //! Runs that end in another way, and moments that count.
 
-use crate::runs::{Given, joined, run};
-use manu_edge::{FixedMoments, Moments};
+ghost use Rattle.std.specs.declared.option.Option.TheVariants.{None};
+
+use crate::runs::{Given, joined, run, run_from};
+use manu_edge::{Failed, FixedMoments, Moments, Source};
 use manu_serve::Status;
+use std::alloc::Global;
 use std::cell::Cell;
 use std::test::Fail;
 
@@ -40,6 +43,118 @@ fn nothing_is_written_where_the_run_does_not_come_to_answers(rt: HostRuntime) ->
         assert_eq!(rt; status, wanted);
         assert_eq!(rt; output.len(), 0);
     }
+    Ok(())
+}
+
+#[test]
+fn each_ending_has_its_number_and_its_text(rt: HostRuntime) {
+    let cases = [
+        (Status::Done, 0, None),
+        (Status::BadHeader, 2, Some("manu: bad header")),
+        (Status::ReadFault, 4, Some("manu: read fault")),
+        (Status::WriteFault, 5, Some("manu: write fault")),
+        (Status::Limit, 6, Some("manu: limit")),
+        (Status::Memory, 7, Some("manu: memory")),
+        (Status::Usage, 64, Some("manu: usage: manu run [--still]")),
+    ];
+    for (status, number, text) in cases {
+        assert_eq!(rt; status.number(), number);
+        assert_eq!(rt; status.text(), text);
+    }
+}
+
+// How a run of one insert ends, and what it writes, where these calls of its source and its sink fail.
+fn failing(alloc: Global, reads: &[u32], writes: &[u32]) -> Result<(Status, Vec<u8>), Fail> {
+    let input = joined(alloc, &[CREATE, INSERT])?;
+    let given = Given {
+        words: &["run", "--still"],
+        input: &input,
+        failing_reads: reads,
+        failing_writes: writes,
+    };
+    run(alloc, &given, &FixedMoments(0))
+}
+
+// The source is asked twice, for the input and for its end, and the output is written at once.
+#[test]
+fn a_fault_comes_exactly_where_a_call_fails(rt: HostRuntime) -> Result<(), Fail> {
+    let alloc = rt.alloc();
+    let whole = joined(
+        alloc,
+        &[
+            "{\"answer\":\"created\",\"line\":1}",
+            "{\"answer\":\"ok\",\"line\":2,\"ts\":1}",
+            "{\"answer\":\"end\",\"live\":1,\"ts\":2}",
+        ],
+    )?;
+    for call in 1..=8 {
+        let (status, output) = failing(alloc, &[call], &[])?;
+        if call > 2 {
+            assert_eq!(rt; status, Status::Done);
+            assert_eq!(rt; output.as_slice(), whole.as_slice());
+        } else {
+            assert_eq!(rt; status, Status::ReadFault);
+            assert_eq!(rt; output.len(), 0);
+        }
+        let (status, output) = failing(alloc, &[], &[call])?;
+        if call > 1 {
+            assert_eq!(rt; status, Status::Done);
+            assert_eq!(rt; output.as_slice(), whole.as_slice());
+        } else {
+            assert_eq!(rt; status, Status::WriteFault);
+            assert_eq!(rt; output.len(), 0);
+        }
+    }
+    Ok(())
+}
+
+/// Gives its bytes one at a time, and counts them.
+#[derive(Drop)]
+struct Drops<'a> {
+    bytes: &'a [u8],
+    given: usize,
+}
+
+impl Source for Drops<'_> {
+    ghost left = { λ _. None };
+
+    ghost faults = { λ _. 0 };
+
+    fn read(&mut self, into: &mut [u8]) -> Result<usize, Failed> {
+        if into.is_empty() || self.given >= self.bytes.len() {
+            return Ok(0);
+        }
+        into[0] = self.bytes[self.given];
+        self.given += 1;
+        Ok(1)
+    }
+}
+
+// How a run ends that is given its input a byte at a time, and how many bytes it took.
+fn drop_by_drop(alloc: Global, lines: &[&str]) -> Result<(Status, usize), Fail> {
+    let input = joined(alloc, lines)?;
+    let given = Given {
+        words: &["run", "--still"],
+        input: &[],
+        failing_reads: &[],
+        failing_writes: &[],
+    };
+    let mut source = Drops {
+        bytes: &input,
+        given: 0,
+    };
+    let (status, _) = run_from(alloc, &given, &mut source, &FixedMoments(0))?;
+    Ok((status, source.given))
+}
+
+#[test]
+fn nothing_is_read_behind_a_bad_header(rt: HostRuntime) -> Result<(), Fail> {
+    let (status, taken) = drop_by_drop(rt.alloc(), &["{}", CREATE])?;
+    assert_eq!(rt; status, Status::BadHeader);
+    assert_eq!(rt; taken, 3);
+    let (status, taken) = drop_by_drop(rt.alloc(), &[CREATE, "{"])?;
+    assert_eq!(rt; status, Status::Done);
+    assert_eq!(rt; taken, 26);
     Ok(())
 }
 
@@ -112,6 +227,33 @@ fn each_request_reads_the_moment_anew(rt: HostRuntime) -> Result<(), Fail> {
             "{\"answer\":\"ok\",\"line\":2,\"ts\":2621440000}",
             "{\"answer\":\"hits\",\"guarantee\":3932160000,\"hits\":[[0,1]],\"line\":3,\"now\":5242880000,\"ts\":5242880001}",
             "{\"answer\":\"end\",\"live\":1,\"ts\":7864320000}",
+        ],
+    )?;
+    assert_eq!(rt; output.as_slice(), wanted.as_slice());
+    Ok(())
+}
+
+#[test]
+fn a_refused_line_reads_no_moment(rt: HostRuntime) -> Result<(), Fail> {
+    let alloc = rt.alloc();
+    let input = joined(alloc, &[CREATE, "{", INSERT])?;
+    let given = Given {
+        words: &["run"],
+        input: &input,
+        failing_reads: &[],
+        failing_writes: &[],
+    };
+    let moments = Steps {
+        calls: Cell::new(0),
+    };
+    let (_, output) = run(alloc, &given, &moments)?;
+    let wanted = joined(
+        alloc,
+        &[
+            "{\"answer\":\"created\",\"line\":1}",
+            "{\"answer\":\"refused\",\"line\":2,\"reason\":\"NotJson\"}",
+            "{\"answer\":\"ok\",\"line\":3,\"ts\":2621440000}",
+            "{\"answer\":\"end\",\"live\":1,\"ts\":5242880000}",
         ],
     )?;
     assert_eq!(rt; output.as_slice(), wanted.as_slice());

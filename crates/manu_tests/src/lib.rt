@@ -7,4 +7,8 @@ mod cases;
 #[cfg(test)]
 mod endings;
 #[cfg(test)]
+mod examples;
+#[cfg(test)]
 mod runs;
+#[cfg(test)]
+mod sessions;

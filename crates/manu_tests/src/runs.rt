@@ -1,9 +1,10 @@
 //! A run of the top call over memory.
 
-use manu_edge::{BytesSink, BytesSource, FixedMoments, MapKeeper, Moments, OpenGate};
+use manu_edge::{BytesSink, BytesSource, FixedMoments, MapKeeper, Moments, OpenGate, Source};
 use manu_serve::{Ended, Status, serve};
 use row_types::Text;
 use std::alloc::{AllocError, Global};
+use std::process::Abort;
 use std::test::Fail;
 
 /// What a run is given.
@@ -31,19 +32,29 @@ pub fn run<M: Moments>(
     given: &Given,
     moments: &M,
 ) -> Result<(Status, Vec<u8>), Fail> {
+    let input = given.input.to_vec(alloc)?;
+    let mut source = BytesSource::new(input, given.failing_reads.to_vec(alloc)?);
+    run_from(alloc, given, &mut source, moments)
+}
+
+/// The same of an input that comes from any source.
+pub fn run_from<S: Source, M: Moments>(
+    alloc: Global,
+    given: &Given,
+    source: &mut S,
+    moments: &M,
+) -> Result<(Status, Vec<u8>), Fail> {
     let mut words = Vec::new(alloc);
     for word in given.words {
         words.push(Text::copied(alloc, *word)?)?;
     }
-    let input = given.input.to_vec(alloc)?;
-    let mut source = BytesSource::new(input, given.failing_reads.to_vec(alloc)?);
     let mut sink = BytesSink::new(alloc, given.failing_writes.to_vec(alloc)?);
     let keeper = MapKeeper::new(alloc, Vec::new(alloc));
     let Ended { status, keeper: _ } = serve(
         &(),
         alloc,
         &words,
-        &mut source,
+        source,
         &mut sink,
         keeper,
         moments,
@@ -53,14 +64,23 @@ pub fn run<M: Moments>(
     Ok((status, output))
 }
 
-/// What `run --still` writes for some lines, and how it ends.
-pub fn still(alloc: Global, lines: &[&str]) -> Result<(Status, Vec<u8>), Fail> {
-    let input = joined(alloc, lines)?;
+/// What `run --still` writes for an input, and how it ends; the clock, which tells 10,000, does not count.
+pub fn still(alloc: Global, input: &[u8]) -> Result<(Status, Vec<u8>), Fail> {
     let given = Given {
         words: &["run", "--still"],
-        input: &input,
+        input,
         failing_reads: &[],
         failing_writes: &[],
     };
-    run(alloc, &given, &FixedMoments(0))
+    run(alloc, &given, &FixedMoments(10_000))
+}
+
+/// Sees that `run --still` ends well and writes these lines for those.
+pub fn check(rt: &impl Abort, alloc: Global, input: &[&str], output: &[&str]) -> Result<(), Fail> {
+    let lines = joined(alloc, input)?;
+    let (status, written) = still(alloc, &lines)?;
+    assert_eq!(rt; status, Status::Done);
+    let wanted = joined(alloc, output)?;
+    assert_eq!(rt; written.as_slice(), wanted.as_slice());
+    Ok(())
 }

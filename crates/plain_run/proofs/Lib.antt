@@ -2,4 +2,4 @@ pub mod Offers
 pub mod Served
 pub mod Keys
 pub mod Firsts
-pub mod Examples
+pub mod Fits

@@ -2,13 +2,14 @@
 use Rattle.std.proofs.Common.{◌≡◌, ℕ, zero, suc, ◌+◌, ◌-◌, ◌*◌, ◌^◌, ◌<◌, ◌≤◌, ◌⊎◌, inl, inr, Bool, true, false, List, [], ◌∷◌, ◌++◌, map, take, drop, refl, sym, ap, subst, ◌∙◌, arith}
 use Rattle.std.specs.Prelude.{nat_le, Result, Ok, Err, IfOk}
 use Rattle.std.proofs.lemmas.Bool.{leb-true, leb-false}
-use Rattle.std.specs.List.{AllByRecursion as Each}
+use Rattle.std.specs.List.{filter, AllByRecursion as Each}
 use Rattle.std.specs.List.Sorted.{IsStrictlySortedBy}
 use Rattle.std.specs.Ordering.{match_ordering}
 use Rattle.std.specs.declared.cmp.Ordering.{Ordering}
 use Rattle.std.specs.declared.cmp.Ordering.TheVariants.{Less, Equal, Greater}
 use Rattle.std.specs.FinMap as fin
 use Rattle.std.proofs.lemmas.List.{append-nil}
+use Rattle.row_types.specs.declared.rows.Row.{Row}
 use Rattle.row_types.specs.declared.hits.Hit.{Hit}
 use Rattle.row_types.specs.declared.hits.Metric.{Metric}
 use Rattle.row_types.specs.declared.hits.Metric.TheVariants as metrics
@@ -25,7 +26,7 @@ use Rattle.log_model.specs.declared.logs.Entry.{Entry}
 use Rattle.log_model.specs.declared.queries.Plan.{Plan}
 use Rattle.log_model.specs.declared.queries.Query.{Query}
 use Rattle.log_model.specs.Logs.{key_of, below, rows_of, live}
-use Rattle.log_model.specs.Scans.{hit_of, scan}
+use Rattle.log_model.specs.Scans.{hit_of, passes_filter, scan}
 use Rattle.log_model.proofs.LogLaws.{each_implied, below-all, below-more, live-all}
 use Rattle.answer_lines.specs.declared.answers.Wrote.{Wrote}
 use Rattle.answer_lines.specs.declared.answers.Answer.{Answer}
@@ -34,6 +35,7 @@ use Rattle.request_lines.specs.declared.requests.Request.{Request}
 use Rattle.request_lines.specs.declared.requests.Ask.{Ask}
 use Rattle.request_lines.specs.declared.requests.Ask.TheVariants as asks
 use Rattle.legal_output.specs.Lines.{Start, Given, Finish, drawn, IsOfMetric, IsReplyTo}
+use Rattle.legal_output.specs.Printed.{only_at}
 use Rattle.legal_output.specs.Legal.{told_of}
 use Rattle.legal_output.specs.Runs.{Plain, Serves}
 use Rattle.plain_run.specs.Accounts.{alone}
@@ -71,6 +73,7 @@ served_write start old now write what log reached logged later grown told kind =
     ∙ below-all old.log now (each_implied (λ e. e.ts.0 < old.clock) (λ e. e.ts.0 < now) (λ e low. lt_later e.ts.0 old.clock now low later) old.log logged) in
     record {
       alone = refl;
+      plain = tt;
       later = le_next old.clock now later;
       rising = (tt, tt);
       drawn_above = (later, tt);
@@ -78,7 +81,6 @@ served_write start old now write what log reached logged later grown told kind =
       log = grown;
       mine = refl;
       tick = le_self old.tick;
-      met = λ met low. low;
       told = λ channel. tt;
       reached = lt_later old.tick old.clock (now + 1) reached (le_next old.clock now later);
       kind = kind;
@@ -123,9 +125,10 @@ each_in_order P (hit ∷ hits) all = subst (Each P) (sym (rising.in_order-cons h
 scan_metric : (log : List Entry) (ts : ℕ) (plan : Plan) (query : Query) → Each (λ hit. IsOfMetric plan.metric hit.distance) (scan log ts plan query)
 unfolding scan
 scan_metric log ts plan query =
-    rising.AllByRecursion-take (λ hit. IsOfMetric plan.metric hit.distance) query.k (in_order hit_cmp (map (hit_of plan query) (fin.values (live log ts))))
-    (each_in_order (λ hit. IsOfMetric plan.metric hit.distance) (map (hit_of plan query) (fin.values (live log ts)))
-    (each_map (λ hit. IsOfMetric plan.metric hit.distance) (hit_of plan query) (λ row. distance_metric plan.metric query.vector row.vector) (fin.values (live log ts))))
+    let rows : List Row = filter (passes_filter query.filter) (fin.values (live log ts)) in
+    rising.AllByRecursion-take (λ hit. IsOfMetric plan.metric hit.distance) query.k (in_order hit_cmp (map (hit_of plan query) rows))
+    (each_in_order (λ hit. IsOfMetric plan.metric hit.distance) (map (hit_of plan query) rows)
+    (each_map (λ hit. IsOfMetric plan.metric hit.distance) (hit_of plan query) (λ row. distance_metric plan.metric query.vector row.vector) rows))
 
 pub served_search : (start : Start) (old : Plain) (now guarantee ts clock : ℕ) (query : Query) (level : Level) (wait : Bool) (hits : List Hit)
     → old.tick < old.clock → old.clock ≤ now → 0 < start.channels
@@ -134,6 +137,7 @@ pub served_search : (start : Start) (old : Plain) (now guarantee ts clock : ℕ)
     → Serves start old (alone (asks.Search query level wait)) (answers.Hits (stamp now) (stamp guarantee) (stamp ts) hits) (record { clock = clock; log = old.log; tick = ts; mine = old.mine })
 served_search start old now guarantee ts clock query level wait hits reached later some is fresh known drawn within found = record {
   alone = refl;
+  plain = tt;
   later = omega arith;
   rising = (tt, tt);
   drawn_above = (later, tt);
@@ -141,7 +145,6 @@ served_search start old now guarantee ts clock query level wait hits reached lat
   log = sym (append-nil old.log);
   mine = refl;
   tick = known;
-  met = λ met low. omega arith;
   told = λ channel. (le_self ts, tt);
   reached = within;
   kind = subst (Each (λ hit. IsOfMetric start.plan.metric hit.distance)) (sym found) (scan_metric old.log ts start.plan query);
@@ -152,19 +155,10 @@ served_search start old now guarantee ts clock query level wait hits reached lat
   counted = tt;
 }
 
-each_take : {X : Type 0} (P : X → Type 0) (n : ℕ) (xs : List X) → Each P xs → Each P (take n xs)
-each_take P zero xs all = tt
-each_take P (suc n) [] all = tt
-each_take P (suc n) (x ∷ xs) all = (all.0, each_take P n xs all.1)
-
-each_drop : {X : Type 0} (P : X → Type 0) (n : ℕ) (xs : List X) → Each P xs → Each P (drop n xs)
-each_drop P zero xs all = all
-each_drop P (suc n) [] all = tt
-each_drop P (suc n) (x ∷ xs) all = each_drop P n xs all.1
-
-each_stamp : (P : ℕ → Type 0) (ticks : List Timestamp) → Each (λ tick. P tick.0) ticks → Each P (map (λ tick. tick.0) ticks)
-each_stamp P [] all = tt
-each_stamp P (tick ∷ ticks) all = (all.0, each_stamp P ticks all.1)
+-- the tick of the one channel
+tick_low : (now channel : ℕ) → Each (λ n. n ≤ now) (only_at (now ∷ []) channel)
+tick_low now zero = (le_self now, tt)
+tick_low now (suc channel) = tt
 
 pub served_tick : (start : Start) (old : Plain) (now : ℕ) (ticks : List Timestamp)
     → old.tick < old.clock → old.clock ≤ now → start.channels ≡ 1 → ticks ≡ stamp now ∷ []
@@ -172,6 +166,7 @@ pub served_tick : (start : Start) (old : Plain) (now : ℕ) (ticks : List Timest
 served_tick start old now ticks reached later one are =
     subst (λ t. Serves start old (alone asks.Tick) (answers.Ticked t) (record { clock = now + 1; log = old.log; tick = now; mine = old.mine })) (sym are) (record {
       alone = refl;
+      plain = tt;
       later = le_next old.clock now later;
       rising = (tt, tt);
       drawn_above = (later, tt);
@@ -179,9 +174,7 @@ served_tick start old now ticks reached later one are =
       log = sym (append-nil old.log);
       mine = refl;
       tick = le_later old.tick old.clock now reached later;
-      met = λ met low. omega arith;
-      told = λ channel. each_stamp (λ n. n ≤ now) (take 1 (drop channel (stamp now ∷ [])))
-          (each_take (λ tick. tick.0 ≤ now) 1 (drop channel (stamp now ∷ [])) (each_drop (λ tick. tick.0 ≤ now) channel (stamp now ∷ []) (le_self now, tt)));
+      told = λ channel. tick_low now channel;
       reached = lt_next now;
       kind = sym one;
       refusal = tt;
@@ -196,6 +189,7 @@ pub served_end : (start : Start) (old : Plain) (now count : ℕ)
     → Serves start old Finish (answers.End (record { ts = stamp now; live = count })) (record { clock = now + 1; log = old.log; tick = now; mine = old.mine })
 served_end start old now count reached logged later counted = record {
   alone = tt;
+  plain = tt;
   later = le_next old.clock now later;
   rising = (tt, tt);
   drawn_above = (later, tt);
@@ -203,7 +197,6 @@ served_end start old now count reached logged later counted = record {
   log = sym (append-nil old.log);
   mine = refl;
   tick = le_later old.tick old.clock now reached later;
-  met = λ met low. le_self now;
   told = λ channel. tt;
   reached = lt_next now;
   kind = tt;

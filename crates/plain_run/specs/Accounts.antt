@@ -1,8 +1,10 @@
 -- What a run keeps, as its account sees it.
-use Rattle.std.specs.Prelude.{◌≡◌}
+use Rattle.std.specs.Prelude.{◌≡◌, List}
+use Rattle.std.specs.List.{AllByRecursion}
 use Rattle.coarse_lists.specs.declared.collections.Collection.{Collection}
-use Rattle.log_model.specs.Scans.{HasDimension}
+use Rattle.log_model.specs.declared.logs.Entry.{Entry}
 use Rattle.request_lines.specs.declared.requests.Ask.{Ask}
+use Rattle.request_lines.specs.Requests.{FitsWrite}
 use Rattle.legal_output.specs.Lines.{Asked, Given}
 use Rattle.legal_output.specs.Runs.{Plain}
 use Rattle.plain_run.specs.declared.runs.PlainRun.{PlainRun}
@@ -10,10 +12,14 @@ use Rattle.plain_run.specs.declared.runs.PlainRun.{PlainRun}
 abbrev pub plain_of : PlainRun → Plain
 plain_of run = record { clock = run.clock; log = run.kept.log.items; tick = run.tick; mine = run.mine }
 
--- a run over a collection of one channel, whose vectors have the collection's dimension
+-- each row that a log brings is one of the collection
+abbrev pub IsLogOf : Collection → List Entry → Type 0
+IsLogOf collection log = AllByRecursion (λ entry. FitsWrite collection entry.write) log
+
+-- a run over a collection of one channel, whose log is of the collection
 pub record IsRunOf (collection : Collection) (run : PlainRun) : Type 0 where
   pub channels : collection.channels ≡ 1
-  pub fits : HasDimension collection.dim run.kept.log.items
+  pub fits : IsLogOf collection run.kept.log.items
 
 -- what the one caller asks
 abbrev pub alone : Ask → Asked

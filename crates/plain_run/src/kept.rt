@@ -6,11 +6,11 @@ ghost use Rattle.std.proofs.Props.{props};
 ghost use Rattle.std.specs.FinMap as fin;
 ghost use Rattle.log_model.specs.Logs.{Rows, IsLog, applied, rows_of};
 ghost use Rattle.log_model.specs.Scans.{scan, HasDimension};
-ghost use Rattle.plain_run.specs.Rising.{IsLog-prop};
+ghost use Rattle.log_model.proofs.LogOrder.{IsLog-prop};
 
 use crate::nearest::nearest;
 use hybrid_time::Timestamp;
-use log_model::{Entry, Plan, Query, Write, apply, scan_at};
+use log_model::{Entry, Plan, Query, Write, apply};
 use row_types::{Hit, Key, Memory, Row};
 use std::alloc::Global;
 use std::collections::{BTreeMap, BTreeSet};
@@ -29,7 +29,7 @@ pub struct Kept {
     taken: usize,
     /// None of them is later.
     shown: Timestamp,
-    ghost rising: { IsLog log.items } by { IsLog-prop log.items },
+    ghost ordered: { IsLog log.items } by { IsLog-prop log.items },
     ghost live: { fin.keys (rows_of log.items) ≡ keys.keys },
     ghost within: { taken ≤ length log.items },
     ghost early: { AllByRecursion (λ entry. entry.ts.0 ≤ shown.0) (take taken log.items) } by { Prim.hlevel props },
@@ -77,8 +77,8 @@ impl Kept {
     }
 
     /// The hits of a search at a timestamp: from the rows of the snapshot, which first takes in the
-    /// entries up to the timestamp. Where the snapshot is later, as it can be behind a search that
-    /// ended for want of memory, from the log. An `Err` leaves the log as it was.
+    /// entries up to the timestamp. A snapshot that is later, as it can be behind a search that ended
+    /// for want of memory, begins anew. An `Err` leaves the log as it was.
     pub fn scan(
         &mut self,
         alloc: Global,
@@ -92,10 +92,7 @@ impl Kept {
         ensures hits { IfOk result (λ hits. hits.items ≡ scan self.old.log.items ts.0 plan.now query.now) }
         ensures log { self.new.log.items ≡ self.old.log.items }
     {
-        if ts.0 < self.shown.0 {
-            return scan_at(alloc, self.log.as_slice(), ts, plan, query);
-        }
-        self.shown = ts;
+        self.turn_to(alloc, ts);
         take_in(
             alloc,
             self.log.as_slice(),
@@ -104,6 +101,20 @@ impl Kept {
             &mut self.taken,
         )?;
         nearest(alloc, &self.rows, plan, query)
+    }
+
+    // Makes the snapshot one of entries up to a timestamp: it stays where it is not later.
+    fn turn_to(&mut self, alloc: Global, ts: Timestamp)
+        ensures log { self.new.log.items ≡ self.old.log.items }
+        ensures shown { self.new.shown ≡ ts }
+    {
+        if self.shown.0 <= ts.0 {
+            self.shown = ts;
+            return;
+        }
+        self.rows = BTreeMap::new(alloc);
+        self.taken = 0;
+        self.shown = ts;
     }
 }
 
@@ -132,7 +143,7 @@ fn take_in(
     rows: &mut BTreeMap<i64, Row>,
     taken: &mut usize,
 ) -> Result<(), Memory>
-    requires rising { IsLog log.now }
+    requires ordered { IsLog log.now }
     requires within { taken.old ≤ length log.now }
     requires early { AllByRecursion (λ entry. entry.ts.0 ≤ ts.0) (take taken.old log.now) }
     requires same { fin.entries (rows_of (take taken.old log.now)) ≡ rows.old.entries }

@@ -1,13 +1,12 @@
 //! A run over requests.
 
-ghost use Rattle.std.specs.Prelude.{◌≡◌, ℕ, ◌+◌, ◌^◌, ◌<◌, ◌≤◌, max, length, Bool, OnErr, IfOk};
+ghost use Rattle.std.specs.Prelude.{◌≡◌, ◌+◌, ◌^◌, ◌<◌, ◌≤◌, max, length, Bool, OnErr, IfOk};
 ghost use Rattle.std.specs.List.{AllByRecursion};
 ghost use Rattle.std.proofs.Props.{props};
 ghost use Rattle.hybrid_time.specs.Times.{of_moment};
-ghost use Rattle.log_model.specs.Scans.{FitsDimension, HasDimension};
 ghost use Rattle.coarse_lists.specs.declared.collections.Collection.{Collection};
 ghost use Rattle.request_lines.specs.declared.requests.Ask.TheVariants as asks;
-ghost use Rattle.request_lines.specs.Requests.{Fits, FitsQuery};
+ghost use Rattle.request_lines.specs.Requests.{Fits, FitsQuery, FitsWrite};
 ghost use Rattle.answer_lines.specs.declared.answers.Answer.TheVariants as answers;
 ghost use Rattle.legal_output.specs.Lines.{Start, Given, Finish, drawn, IsReplyTo};
 ghost use Rattle.legal_output.specs.Legal.{told_of};
@@ -15,7 +14,7 @@ ghost use Rattle.legal_output.specs.Outputs.{start_of};
 ghost use Rattle.legal_output.specs.Runs.{Serves, begun};
 
 use crate::kept::Kept;
-use answer_lines::{Answer, MeetReply, WriteReply, Wrote};
+use answer_lines::{Answer, EndReply, WriteReply, Wrote};
 use coarse_lists::Collection;
 use hybrid_time::{Level, Timestamp, guarantee};
 use log_model::{Entry, Plan, Query, Write};
@@ -81,12 +80,14 @@ impl PlainRun {
                 wait: _,
             } => self.search(alloc, collection, now, &query, level),
             Ask::Tick => self.tick_all(alloc, collection, now),
+            // No request that fits asks one of these yet.
+            Ask::Get { .. } | Ask::Seal | Ask::Meet => unreachable!(),
         }
     }
 
     /// Ends the run: counts the keys that are live behind all writes. Draws one number, at or above
     /// the moment's first timestamp; takes no memory.
-    pub fn end(&mut self, moment: u64) -> MeetReply
+    pub fn end(&mut self, moment: u64) -> EndReply
         requires room { (plain_of self.old).clock + 3 < 2 ^ 64 }
         ensures serves { (start : Start) → Serves start (plain_of self.old) Finish (answers.End result) (plain_of self.new) }
         ensures moment { of_moment moment ≤ result.ts.0 }
@@ -95,7 +96,7 @@ impl PlainRun {
         let live = self.kept.live();
         self.clock = last + 1;
         self.tick = last;
-        MeetReply {
+        EndReply {
             ts: Timestamp(last),
             live,
         }
@@ -103,7 +104,7 @@ impl PlainRun {
 }
 
 impl PlainRun {
-    ghost use Rattle.plain_run.specs.Accounts.{plain_of, IsRunOf, alone};
+    ghost use Rattle.plain_run.specs.Accounts.{plain_of, IsLogOf, IsRunOf, alone};
 
     /// The next number, lifted to a moment.
     fn lifted(&self, moment: u64) -> u64
@@ -118,9 +119,11 @@ impl PlainRun {
     fn write(&mut self, now: u64, write: Write) -> Result<Answer, Memory>
         requires later { (plain_of self.old).clock ≤ now }
         requires room { now + 3 < 2 ^ 64 }
-        ensures serves { IfOk result (λ answer. (start : Start) → Serves start (plain_of self.old) (alone (asks.Write write)) answer (plain_of self.new)) }
+        ensures serves { IfOk result (λ answer. (start : Start) →
+            Serves start (plain_of self.old) (alone (asks.Write write)) answer (plain_of self.new)) }
         ensures moments { IfOk result (λ answer. AllByRecursion (λ n. now ≤ n) (drawn answer)) }
-        ensures fits { (dim : ℕ) → HasDimension dim (plain_of self.old).log → FitsDimension dim write → HasDimension dim (plain_of self.new).log }
+        ensures fits { (collection : Collection) → IsLogOf collection (plain_of self.old).log →
+            FitsWrite collection write → IsLogOf collection (plain_of self.new).log }
         ensures numbers { (plain_of self.new).clock ≤ now + 3 }
         ensures err { OnErr result (plain_of self.new ≡ plain_of self.old) }
     {
@@ -142,10 +145,11 @@ impl PlainRun {
         level: Level,
     ) -> Result<Answer, Memory>
         requires run { IsRunOf collection.now self.old }
-        requires fits { FitsQuery collection.now.dim query.now }
+        requires fits { FitsQuery collection.now query.now }
         requires later { (plain_of self.old).clock ≤ now }
         requires room { now + 3 < 2 ^ 64 }
-        ensures serves { IfOk result (λ answer. (wait : Bool) → Serves (start_of collection.now) (plain_of self.old) (alone (asks.Search query.now level wait)) answer (plain_of self.new)) }
+        ensures serves { IfOk result (λ answer. (wait : Bool) →
+            Serves (start_of collection.now) (plain_of self.old) (alone (asks.Search query.now level wait)) answer (plain_of self.new)) }
         ensures moments { IfOk result (λ answer. AllByRecursion (λ n. now ≤ n) (drawn answer)) }
         ensures log { (plain_of self.new).log ≡ (plain_of self.old).log }
         ensures numbers { (plain_of self.new).clock ≤ now + 3 }

@@ -1,186 +1,251 @@
-//! Runs of a few requests.
+//! Runs of a few requests, which are read from their lines.
 
-ghost use Rattle.std.specs.Prelude.{◌≡◌, length, IfOk};
-ghost use Rattle.request_lines.specs.Requests.{FitsAsk};
+ghost use Rattle.std.specs.Prelude.{◌≡◌, ◌≤◌, length, IfOk};
+ghost use Rattle.row_types.specs.Bits.{IsDimension};
 
 use crate::PlainRun;
-use answer_lines::{Answer, WriteReply, Wrote};
-use coarse_lists::{Collection, Index};
-use hybrid_time::{Level, Timestamp};
-use log_model::{Query, Write};
-use request_lines::{Ask, Request};
-use row_types::{BitVector, Distance, Hit, Key, List, Memory, Metric, Row, Schema};
+use answer_lines::line;
+use coarse_lists::Collection;
+use request_lines::{read_header, read_line};
 use std::alloc::Global;
 use std::process::Abort;
+use std::test::Fail;
 
-fn collection(alloc: Global) -> Collection
-    ensures dim { result.dim ≡ 8 }
-    ensures channels { result.channels ≡ 1 }
+fn collection(rt: &impl Abort, alloc: Global, header: &str) -> Result<Collection, Fail>
+    ensures dim { IfOk result (λ collection. IsDimension collection.dim) }
+    ensures channels { IfOk result (λ collection. collection.channels ≡ 1) }
 {
-    Collection {
-        dim: 8,
-        metric: Metric::Hamming,
-        channels: 1,
-        nodes: 1,
-        seal_rows: 1024,
-        index: Index::Flat,
-        schema: Schema {
-            columns: List::empty(alloc),
-        },
-    }
+    let collection = read_header(alloc, header.as_bytes())?;
+    assert!(rt; collection.channels == 1);
+    Ok(collection)
 }
 
-fn vector(rt: &impl Abort, alloc: Global, byte: u8) -> Result<BitVector, Memory>
-    ensures { IfOk result (λ vector. length vector ≡ 8) }
+/// Serves each line and compares the text of its answer, and at the end the number of live keys.
+fn check(
+    rt: &impl Abort,
+    alloc: Global,
+    header: &str,
+    session: &[(&str, &str)],
+    live: u64,
+) -> Result<(), Fail>
+    requires { length session.now ≤ 1000 }
 {
-    let vector = BitVector::from_bytes(alloc, &[byte])?;
-    assert!(rt; vector.dim() == 8);
-    Ok(vector)
-}
-
-fn row(rt: &impl Abort, alloc: Global, key: i64, byte: u8) -> Result<Row, Memory>
-    ensures { IfOk result (λ row. length row.vector ≡ 8) }
-{
-    Ok(Row {
-        key: Key(key),
-        vector: vector(rt, alloc, byte)?,
-        fields: List::empty(alloc),
-    })
-}
-
-#[test]
-fn an_insert_of_a_live_key_changes_nothing(rt: HostRuntime) -> Result<(), Memory> {
-    let alloc = rt.alloc();
-    let collection = collection(alloc);
+    let collection = collection(rt, alloc, header)?;
     let mut run = PlainRun::new(alloc);
-    for (byte, ts, what) in [(0x0fu8, 1u64, Wrote::Inserted), (0xff, 2, Wrote::Exists)] {
-        let write = Write::Insert(row(&rt, alloc, 7, byte)?);
-        let request = Request {
-            caller: 0,
-            what: Ask::Write(write),
-        };
-        let want = WriteReply {
-            ts: Timestamp(ts),
-            what,
-        };
-        match run.serve(alloc, &collection, request, 0)? {
-            Answer::Wrote(reply) => assert!(&rt; reply == want),
-            _ => assert!(&rt; false),
-        }
+    'lines: for (asked, want) in session {
+        let request = read_line(alloc, asked.as_bytes(), &collection)?;
+        assert!(rt; request.caller == 0);
+        let answer = run.serve(alloc, &collection, request, 0)?;
+        let mut text = line(alloc, 1, &answer)?;
+        text.pop();
+        assert_eq!(rt; text.as_slice(), want.as_bytes());
     }
-    assert!(&rt; run.end(0).live == 1);
+    assert_eq!(rt; run.end(0).live, live);
     Ok(())
 }
 
-/// A search for the two nearest to `0f`.
-fn search(rt: &impl Abort, alloc: Global, level: Level) -> Result<Request, Memory>
-    ensures fits { IfOk result (λ request. FitsAsk 8 request.what) }
-    ensures caller { IfOk result (λ request. request.caller ≡ 0) }
-{
-    let query = Query {
-        vector: vector(rt, alloc, 0x0f)?,
-        k: 2,
-    };
-    let wait = true;
-    Ok(Request {
-        caller: 0,
-        what: Ask::Search { query, level, wait },
-    })
-}
-
-fn hit(bits: u32, key: i64) -> Hit {
-    Hit {
-        distance: Distance::Hamming(bits),
-        key: Key(key),
-    }
-}
-
-fn near(key: i64) -> Hit {
-    hit(0, key)
+#[test]
+fn an_insert_of_a_live_key_changes_nothing(rt: HostRuntime) -> Result<(), Fail> {
+    check(
+        &rt,
+        rt.alloc(),
+        r#"{"op":"create","dim":8}"#,
+        &[
+            (
+                r#"{"op":"insert","key":7,"vector":"0f"}"#,
+                r#"{"answer":"ok","line":1,"ts":1}"#,
+            ),
+            (
+                r#"{"op":"insert","key":7,"vector":"ff"}"#,
+                r#"{"answer":"exists","line":1,"ts":2}"#,
+            ),
+            (
+                r#"{"op":"search","vector":"0f","k":2,"level":"Strong"}"#,
+                r#"{"answer":"hits","guarantee":3,"hits":[[0,7]],"line":1,"now":3,"ts":4}"#,
+            ),
+        ],
+        1,
+    )
 }
 
 #[test]
-fn a_search_of_the_last_tick_leaves_later_writes_out(rt: HostRuntime) -> Result<(), Memory> {
-    let alloc = rt.alloc();
-    let collection = collection(alloc);
-    let mut run = PlainRun::new(alloc);
-    for (key, level, ts, want) in [
-        (7, Level::Strong, 3u64, [near(7)].as_slice()),
-        (9, Level::Eventually, 3, [near(7)].as_slice()),
-        (5, Level::Session, 8, [near(5), near(7)].as_slice()),
-    ] {
-        let write = Write::Upsert(row(&rt, alloc, key, 0x0f)?);
-        let request = Request {
-            caller: 0,
-            what: Ask::Write(write),
-        };
-        run.serve(alloc, &collection, request, 0)?;
-        let request = search(&rt, alloc, level)?;
-        match run.serve(alloc, &collection, request, 0)? {
-            Answer::Hits { ts: at, hits, .. } => {
-                assert_eq!(&rt; at, Timestamp(ts));
-                assert_eq!(&rt; hits.as_slice(), want);
-            }
-            _ => assert!(&rt; false),
-        }
-    }
-    Ok(())
-}
-
-/// What comes before a search; a write is of the key 7.
-#[derive(Clone, Copy)]
-enum Change {
-    Set(u8),
-    Clear,
-    Tick,
-}
-
-fn asked(rt: &impl Abort, alloc: Global, change: Change) -> Result<Request, Memory>
-    ensures fits { IfOk result (λ request. FitsAsk 8 request.what) }
-    ensures caller { IfOk result (λ request. request.caller ≡ 0) }
-{
-    let what = match change {
-        Change::Set(byte) => Ask::Write(Write::Upsert(row(rt, alloc, 7, byte)?)),
-        Change::Clear => Ask::Write(Write::Delete(Key(7))),
-        Change::Tick => Ask::Tick,
-    };
-    Ok(Request { caller: 0, what })
+fn a_search_of_the_last_tick_leaves_later_writes_out(rt: HostRuntime) -> Result<(), Fail> {
+    check(
+        &rt,
+        rt.alloc(),
+        r#"{"op":"create","dim":8}"#,
+        &[
+            (
+                r#"{"op":"upsert","key":7,"vector":"0f"}"#,
+                r#"{"answer":"ok","line":1,"ts":1,"was":false}"#,
+            ),
+            (
+                r#"{"op":"search","vector":"0f","k":2,"level":"Strong"}"#,
+                r#"{"answer":"hits","guarantee":2,"hits":[[0,7]],"line":1,"now":2,"ts":3}"#,
+            ),
+            (
+                r#"{"op":"upsert","key":9,"vector":"0f"}"#,
+                r#"{"answer":"ok","line":1,"ts":4,"was":false}"#,
+            ),
+            (
+                r#"{"op":"search","vector":"0f","k":2,"level":"Eventually"}"#,
+                r#"{"answer":"hits","guarantee":0,"hits":[[0,7]],"line":1,"now":5,"ts":3}"#,
+            ),
+            (
+                r#"{"op":"upsert","key":5,"vector":"0f"}"#,
+                r#"{"answer":"ok","line":1,"ts":6,"was":false}"#,
+            ),
+            (
+                r#"{"op":"search","vector":"0f","k":2,"level":"Session"}"#,
+                r#"{"answer":"hits","guarantee":6,"hits":[[0,5],[0,7]],"line":1,"now":7,"ts":8}"#,
+            ),
+        ],
+        3,
+    )
 }
 
 #[test]
 fn a_snapshot_stays_while_its_key_is_written_and_moves_at_a_tick(
     rt: HostRuntime,
-) -> Result<(), Memory> {
-    let alloc = rt.alloc();
-    let collection = collection(alloc);
-    let mut run = PlainRun::new(alloc);
-    for (change, level, ts, want) in [
-        (Change::Set(0x0f), Level::Eventually, 0u64, [].as_slice()),
-        (Change::Tick, Level::Eventually, 3, [hit(0, 7)].as_slice()),
-        (
-            Change::Set(0xff),
-            Level::Eventually,
-            3,
-            [hit(0, 7)].as_slice(),
-        ),
-        (Change::Clear, Level::Eventually, 3, [hit(0, 7)].as_slice()),
-        (Change::Tick, Level::Eventually, 9, [].as_slice()),
-        (Change::Set(0xff), Level::Eventually, 9, [].as_slice()),
-        (Change::Tick, Level::Eventually, 13, [hit(4, 7)].as_slice()),
-        (Change::Clear, Level::Eventually, 13, [hit(4, 7)].as_slice()),
-        (Change::Set(0x0f), Level::Strong, 19, [hit(0, 7)].as_slice()),
-        (Change::Clear, Level::Eventually, 19, [hit(0, 7)].as_slice()),
-    ] {
-        let request = asked(&rt, alloc, change)?;
-        run.serve(alloc, &collection, request, 0)?;
-        let request = search(&rt, alloc, level)?;
-        match run.serve(alloc, &collection, request, 0)? {
-            Answer::Hits { ts: at, hits, .. } => {
-                assert_eq!(&rt; at, Timestamp(ts));
-                assert_eq!(&rt; hits.as_slice(), want);
-            }
-            _ => assert!(&rt; false),
-        }
-    }
-    Ok(())
+) -> Result<(), Fail> {
+    check(
+        &rt,
+        rt.alloc(),
+        r#"{"op":"create","dim":8}"#,
+        &[
+            (
+                r#"{"op":"upsert","key":7,"vector":"0f"}"#,
+                r#"{"answer":"ok","line":1,"ts":1,"was":false}"#,
+            ),
+            (
+                r#"{"op":"search","vector":"0f","k":2,"level":"Eventually"}"#,
+                r#"{"answer":"hits","guarantee":0,"hits":[],"line":1,"now":2,"ts":0}"#,
+            ),
+            (
+                r#"{"op":"tick"}"#,
+                r#"{"answer":"ticked","line":1,"ticks":[3]}"#,
+            ),
+            (
+                r#"{"op":"search","vector":"0f","k":2,"level":"Eventually"}"#,
+                r#"{"answer":"hits","guarantee":0,"hits":[[0,7]],"line":1,"now":4,"ts":3}"#,
+            ),
+            (
+                r#"{"op":"upsert","key":7,"vector":"ff"}"#,
+                r#"{"answer":"ok","line":1,"ts":5,"was":true}"#,
+            ),
+            (
+                r#"{"op":"search","vector":"0f","k":2,"level":"Eventually"}"#,
+                r#"{"answer":"hits","guarantee":0,"hits":[[0,7]],"line":1,"now":6,"ts":3}"#,
+            ),
+            (
+                r#"{"op":"delete","key":7}"#,
+                r#"{"answer":"ok","line":1,"ts":7,"was":true}"#,
+            ),
+            (
+                r#"{"op":"search","vector":"0f","k":2,"level":"Eventually"}"#,
+                r#"{"answer":"hits","guarantee":0,"hits":[[0,7]],"line":1,"now":8,"ts":3}"#,
+            ),
+            (
+                r#"{"op":"tick"}"#,
+                r#"{"answer":"ticked","line":1,"ticks":[9]}"#,
+            ),
+            (
+                r#"{"op":"search","vector":"0f","k":2,"level":"Eventually"}"#,
+                r#"{"answer":"hits","guarantee":0,"hits":[],"line":1,"now":10,"ts":9}"#,
+            ),
+            (
+                r#"{"op":"upsert","key":7,"vector":"ff"}"#,
+                r#"{"answer":"ok","line":1,"ts":11,"was":false}"#,
+            ),
+            (
+                r#"{"op":"tick"}"#,
+                r#"{"answer":"ticked","line":1,"ticks":[12]}"#,
+            ),
+            (
+                r#"{"op":"search","vector":"0f","k":2,"level":"Eventually"}"#,
+                r#"{"answer":"hits","guarantee":0,"hits":[[4,7]],"line":1,"now":13,"ts":12}"#,
+            ),
+            (
+                r#"{"op":"delete","key":7}"#,
+                r#"{"answer":"ok","line":1,"ts":14,"was":true}"#,
+            ),
+            (
+                r#"{"op":"search","vector":"0f","k":2,"level":"Eventually"}"#,
+                r#"{"answer":"hits","guarantee":0,"hits":[[4,7]],"line":1,"now":15,"ts":12}"#,
+            ),
+        ],
+        0,
+    )
+}
+
+#[test]
+fn equal_fractions_stand_by_their_keys(rt: HostRuntime) -> Result<(), Fail> {
+    check(
+        &rt,
+        rt.alloc(),
+        r#"{"op":"create","dim":8,"metric":"JACCARD"}"#,
+        &[
+            (
+                r#"{"op":"insert","key":7,"vector":"80"}"#,
+                r#"{"answer":"ok","line":1,"ts":1}"#,
+            ),
+            (
+                r#"{"op":"insert","key":5,"vector":"f0"}"#,
+                r#"{"answer":"ok","line":1,"ts":2}"#,
+            ),
+            (
+                r#"{"op":"search","vector":"c0","k":2,"level":"Strong"}"#,
+                r#"{"answer":"hits","guarantee":3,"hits":[[2,4,5],[1,2,7]],"line":1,"now":3,"ts":4}"#,
+            ),
+        ],
+        2,
+    )
+}
+
+#[test]
+fn the_nearest_are_those_of_the_rows_that_pass(rt: HostRuntime) -> Result<(), Fail> {
+    check(
+        &rt,
+        rt.alloc(),
+        r#"{"op":"create","dim":8,"metric":"JACCARD","fields":[{"name":"lang","type":"VARCHAR"},{"name":"year","type":"INT64"}]}"#,
+        &[
+            (
+                r#"{"op":"insert","key":1,"vector":"f0","fields":{"lang":"en","year":2021}}"#,
+                r#"{"answer":"ok","line":1,"ts":1}"#,
+            ),
+            (
+                r#"{"op":"insert","key":2,"vector":"f1","fields":{"lang":"de","year":2022}}"#,
+                r#"{"answer":"ok","line":1,"ts":2}"#,
+            ),
+            (
+                r#"{"op":"insert","key":3,"vector":"f3","fields":{"lang":"en","year":2019}}"#,
+                r#"{"answer":"ok","line":1,"ts":3}"#,
+            ),
+            (
+                r#"{"op":"insert","key":4,"vector":"ff","fields":{"lang":"en","year":2023}}"#,
+                r#"{"answer":"ok","line":1,"ts":4}"#,
+            ),
+            (
+                r#"{"op":"search","vector":"f0","k":2,"level":"Strong"}"#,
+                r#"{"answer":"hits","guarantee":5,"hits":[[0,4,1],[1,5,2]],"line":1,"now":5,"ts":6}"#,
+            ),
+            (
+                r#"{"op":"search","vector":"f0","k":2,"level":"Eventually","filter":"lang == \"en\" && year >= 2020"}"#,
+                r#"{"answer":"hits","guarantee":0,"hits":[[0,4,1],[4,8,4]],"line":1,"now":7,"ts":6}"#,
+            ),
+            (
+                r#"{"op":"search","vector":"f0","k":1,"level":"Eventually","filter":"year > 2021"}"#,
+                r#"{"answer":"hits","guarantee":0,"hits":[[1,5,2]],"line":1,"now":8,"ts":6}"#,
+            ),
+            (
+                r#"{"op":"search","vector":"f0","k":1,"level":"Eventually","filter":"year > 2023"}"#,
+                r#"{"answer":"hits","guarantee":0,"hits":[],"line":1,"now":9,"ts":6}"#,
+            ),
+            (
+                r#"{"op":"search","vector":"f0","k":1,"level":"Eventually","filter":"  "}"#,
+                r#"{"answer":"hits","guarantee":0,"hits":[[0,4,1]],"line":1,"now":10,"ts":6}"#,
+            ),
+        ],
+        4,
+    )
 }

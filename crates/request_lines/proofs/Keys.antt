@@ -12,10 +12,10 @@ use Rattle.serde_json.specs.Data.{Data}
 use Rattle.serde_json.specs.Read.{read}
 use Rattle.serde_json.specs.View.{members_view}
 use Rattle.serde_json.specs.declared.value.Value.{Value}
-use Rattle.request_lines.specs.Json.{value_of, knows}
+use Rattle.request_lines.specs.Json.{line_of, knows}
 
 -- bytes that are no text are no value
-pub not_text : (bytes : List ℕ) → ¬ (IsUtf8 bytes) → None ≡ value_of bytes
+pub not_text : (bytes : List ℕ) → ¬ (IsUtf8 bytes) → None ≡ line_of bytes
 not_text bytes none =
     elim (is_utf8 bytes) as (λ b. is_utf8 bytes ≡ b → None ≡ cond b (read bytes) None) [
       | true ↦ λ e. absurd (none (IsUtf8-from_is_utf8 bytes e))
@@ -23,7 +23,7 @@ not_text bytes none =
     ] refl
 
 -- bytes that are text are the value that it is read as
-pub text_value : (text bytes : List ℕ) (d : Data) → text ≡ bytes → IsUtf8 bytes → read text ≡ Some d → Some d ≡ value_of bytes
+pub text_value : (text bytes : List ℕ) (d : Data) → text ≡ bytes → IsUtf8 bytes → read text ≡ Some d → Some d ≡ line_of bytes
 text_value text bytes d same utf8 is =
     sym is ∙ ap read same ∙ ap (λ b. cond b (read bytes) None) (sym (is_utf8-from_IsUtf8 bytes utf8))
 

@@ -1,21 +1,19 @@
--- The request that a line is, or the first reason why it is none. Each definition below gives one or
--- two reasons, and they are asked in the order of the reasons.
-use Rattle.std.specs.Prelude.{◌≡◌, ℕ, ℤ, ◌-◌, ◌^◌, ◌≤◌, Bool, true, List, [], ◌∷◌, length, Option, Some, None, option_and_then, option_map, is_some, Result, Ok, Err, if◌then◌else◌, codes}
-use Rattle.std.specs.Result.{result_ok}
+-- The table of reasons, and the request that a line is where no reason holds.
+use Rattle.std.specs.Prelude.{◌≡◌, ℕ, pos, ◌≤◌, Bool, true, not, ◌&&◌, List, [], ◌∷◌, length, find, Option, Some, None, IfSome, IsTrue, option_and_then, is_none, unwrap_or, Result, Ok, Err, codes}
+use Rattle.std.specs.List.{list_any}
 use Rattle.std.specs.Str.{bytes_eq}
-use Rattle.serde_json.specs.Data.{Data}
-use Rattle.serde_json.specs.Find.{get, as_str, as_object}
-use Rattle.row_types.specs.Spelling.{vector_of}
+use Rattle.row_types.specs.Schemas.{fits}
 use Rattle.row_types.specs.declared.rows.Key.{Key}
 use Rattle.row_types.specs.declared.rows.Row.{Row}
 use Rattle.hybrid_time.specs.declared.levels.Level.{Level}
-use Rattle.hybrid_time.specs.declared.levels.Level.TheVariants.{Strong, Bounded, Session, Eventually}
+use Rattle.hybrid_time.specs.declared.levels.Level.TheVariants.{Strong}
+use Rattle.log_model.specs.declared.logs.Write.{Write}
 use Rattle.log_model.specs.declared.logs.Write.TheVariants as writes
 use Rattle.log_model.specs.declared.queries.Query.{Query}
-use Rattle.log_model.specs.Scans.{FitsDimension}
+use Rattle.coarse_lists.specs.Collections.{IsRowOf}
 use Rattle.coarse_lists.specs.declared.collections.Collection.{Collection}
 use Rattle.answer_lines.specs.declared.reasons.Reason.{Reason}
-use Rattle.answer_lines.specs.declared.reasons.Reason.TheVariants.{NotJson, NotObject, BadOp, LateCreate, UnknownMember, BadKey, NoVector, BadVector, BadK, BadLevel}
+use Rattle.answer_lines.specs.declared.reasons.Reason.TheVariants.{NotJson, NotObject, BadOp, LateCreate, UnknownMember, BadKey, NoVector, BadVector, BadFields, BadK, BadLevel, BadFilter}
 use Rattle.request_lines.specs.declared.operations.Operation.{Operation}
 use Rattle.request_lines.specs.declared.operations.Operation.TheVariants.{Insert, Upsert, Delete, Search, Tick}
 use Rattle.request_lines.specs.declared.refusals.LineError.{LineError}
@@ -23,133 +21,132 @@ use Rattle.request_lines.specs.declared.refusals.LineError.TheVariants.{Refused,
 use Rattle.request_lines.specs.declared.requests.Request.{Request}
 use Rattle.request_lines.specs.declared.requests.Ask.{Ask}
 use Rattle.request_lines.specs.declared.requests.Ask.TheVariants as asks
-use Rattle.request_lines.specs.Json.{value_of, text_at, integer_of, integer_at, between, has_only, stated}
+use Rattle.request_lines.specs.Headers.{creates}
+use Rattle.request_lines.specs.Json.{Line, line_of, members_in, text_at, has_only, named}
+use Rattle.request_lines.specs.Members.{key_at, vector_text_at, vector_at, fields_at, max_k, k_at, level_at, filter_at}
 
--- a reason ends the reading
-abbrev pub and_then : {T U : Type 0} → Result T Reason → (T → Result U Reason) → Result U Reason
-and_then (Ok x) next = next x
-and_then (Err reason) next = Err reason
+-- ---- operations and their members
 
-abbrev pub found_or : {T : Type 0} → Reason → Option T → Result T Reason
-found_or reason None = Err reason
-found_or reason (Some x) = Ok x
+abbrev pub operations : List (List ℕ × Operation)
+operations = (codes "insert", Insert) ∷ (codes "upsert", Upsert) ∷ (codes "delete", Delete) ∷ (codes "search", Search) ∷ (codes "tick", Tick) ∷ []
 
--- NotJson
-abbrev pub json_in : List ℕ → Result Data Reason
-json_in bytes = found_or NotJson (value_of bytes)
-
--- NotObject
-abbrev pub object_in : Data → Result Data Reason
-object_in d = if is_some (as_object d) then Ok d else Err NotObject
-
--- BadOp, LateCreate: the operation of a name
-abbrev pub operation_of : List ℕ → Result Operation Reason
-operation_of name =
-    if bytes_eq name (codes "insert") then Ok Insert else
-    (if bytes_eq name (codes "upsert") then Ok Upsert else
-    (if bytes_eq name (codes "delete") then Ok Delete else
-    (if bytes_eq name (codes "search") then Ok Search else
-    (if bytes_eq name (codes "tick") then Ok Tick else
-    (if bytes_eq name (codes "create") then Err LateCreate else
-    Err BadOp)))))
-
-abbrev pub operation_in : Data → Result Operation Reason
-operation_in d = and_then (found_or BadOp (text_at (codes "op") d)) operation_of
+unfoldable pub operation_at : Line → Option Operation
+operation_at line = option_and_then (named operations) (text_at (codes "op") line)
 
 -- the members that an operation may have
 abbrev pub members_of : Operation → List (List ℕ)
-members_of Insert = codes "op" ∷ codes "key" ∷ codes "vector" ∷ []
-members_of Upsert = codes "op" ∷ codes "key" ∷ codes "vector" ∷ []
+members_of Insert = codes "op" ∷ codes "key" ∷ codes "vector" ∷ codes "fields" ∷ []
+members_of Upsert = codes "op" ∷ codes "key" ∷ codes "vector" ∷ codes "fields" ∷ []
 members_of Delete = codes "op" ∷ codes "key" ∷ []
-members_of Search = codes "op" ∷ codes "vector" ∷ codes "k" ∷ codes "level" ∷ codes "delta_ms" ∷ []
+members_of Search = codes "op" ∷ codes "vector" ∷ codes "k" ∷ codes "level" ∷ codes "delta_ms" ∷ codes "filter" ∷ []
 members_of Tick = codes "op" ∷ []
 
--- UnknownMember
-abbrev pub form_in : Data → Operation → Result Operation Reason
-form_in d operation = if has_only (members_of operation) d then Ok operation else Err UnknownMember
+abbrev pub has : Operation → List ℕ → Bool
+has operation name = list_any (bytes_eq name) (members_of operation)
 
--- BadKey
-abbrev pub key_of : ℤ → Key
-key_of number = record { 0 = number }
+-- ---- the table of reasons
 
-abbrev pub key_in : Data → Result Key Reason
-key_in d = found_or BadKey (option_map key_of (integer_at (codes "key") d))
+-- when a reason holds of a line with an operation
+abbrev pub holds : Collection → Operation → Line → Reason → Bool
+holds collection operation line NotJson = is_none line
+holds collection operation line NotObject = is_none (members_in line)
+holds collection operation line BadOp = is_none (operation_at line) && not (creates line)
+holds collection operation line LateCreate = creates line
+holds collection operation line UnknownMember = not (has_only (members_of operation) line)
+holds collection operation line BadKey = has operation (codes "key") && is_none (key_at line)
+holds collection operation line NoVector = has operation (codes "vector") && is_none (vector_text_at line)
+holds collection operation line BadVector = has operation (codes "vector") && is_none (vector_at collection.dim line)
+holds collection operation line BadFields = has operation (codes "fields") && is_none (fields_at collection.schema.columns line)
+holds collection operation line BadK = has operation (codes "k") && is_none (k_at line)
+holds collection operation line BadLevel = has operation (codes "level") && is_none (level_at line)
+holds collection operation line BadFilter = has operation (codes "filter") && is_none (filter_at collection.schema.columns line)
 
--- NoVector, BadVector
-abbrev pub vector_in : ℕ → Data → Result (List Bool) Reason
-vector_in dim d = and_then (found_or NoVector (text_at (codes "vector") d)) (λ text. found_or BadVector (result_ok (vector_of text dim)))
+-- the reasons in their order
+abbrev pub reasons : List Reason
+reasons = NotJson ∷ NotObject ∷ BadOp ∷ LateCreate ∷ UnknownMember ∷ BadKey ∷ NoVector ∷ BadVector ∷ BadFields ∷ BadK ∷ BadLevel ∷ BadFilter ∷ []
 
-abbrev pub max_k : ℕ
-max_k = 16384
+-- a reason that was found, or else a value
+abbrev pub refused_or : {T : Type 0} → Option Reason → T → Result T Reason
+refused_or (Some reason) value = Err reason
+refused_or None value = Ok value
 
--- BadK
-abbrev pub k_in : Data → Result ℕ Reason
-k_in d = found_or BadK (option_and_then (between 1 max_k) (integer_at (codes "k") d))
+-- ---- the request where no reason holds
 
-abbrev pub milliseconds_of : Data → Option ℕ
-milliseconds_of d = option_and_then (between 0 (2 ^ 32 - 1)) (integer_of d)
+-- What stands here beside members (the number 0, the empty list, Strong, no filter) is never taken: where no
+-- reason holds, the members that an operation must have are there, and the others have a value.
 
--- the level of a name; only Bounded takes milliseconds, by default 5,000
-abbrev pub level_of : Option Data → List ℕ → Option Level
-level_of delta name =
-    if bytes_eq name (codes "Bounded") then option_map Bounded (stated 5000 milliseconds_of delta) else
-    (if is_some delta then None else
-    (if bytes_eq name (codes "Strong") then Some Strong else
-    (if bytes_eq name (codes "Session") then Some Session else
-    (if bytes_eq name (codes "Eventually") then Some Eventually else
-    None))))
+abbrev pub key_in : Line → Key
+key_in line = record { 0 = unwrap_or (key_at line) (pos 0) }
 
--- BadLevel
-abbrev pub level_in : Data → Result Level Reason
-level_in d = found_or BadLevel (option_and_then (level_of (get (codes "delta_ms") d)) (stated (codes "Bounded") as_str (get (codes "level") d)))
+abbrev pub row_in : Collection → Line → Row
+row_in collection line = record {
+  key = key_in line;
+  vector = unwrap_or (vector_at collection.dim line) [];
+  fields = unwrap_or (fields_at collection.schema.columns line) [];
+}
 
-abbrev pub row_of : Key → List Bool → Row
-row_of key vector = record { key = key; vector = vector; fields = [] }
+abbrev pub query_in : Collection → Line → Query
+query_in collection line = record {
+  vector = unwrap_or (vector_at collection.dim line) [];
+  k = unwrap_or (k_at line) 0;
+  filter = unwrap_or (filter_at collection.schema.columns line) None;
+}
 
--- the row of an insert or an upsert
-abbrev pub row_in : ℕ → Data → Result Row Reason
-row_in dim d = and_then (key_in d) (λ key. and_then (vector_in dim d) (λ vector. Ok (row_of key vector)))
+abbrev pub level_in : Line → Level
+level_in line = unwrap_or (level_at line) Strong
 
-abbrev pub query_of : List Bool → ℕ → Query
-query_of vector k = record { vector = vector; k = k }
+-- what each operation asks
+abbrev pub ask_in : Collection → Line → Operation → Ask
+ask_in collection line Insert = asks.Write (writes.Insert (row_in collection line))
+ask_in collection line Upsert = asks.Write (writes.Upsert (row_in collection line))
+ask_in collection line Delete = asks.Write (writes.Delete (key_in line))
+ask_in collection line Search = asks.Search (query_in collection line) (level_in line) true
+ask_in collection line Tick = asks.Tick
 
-abbrev pub query_in : ℕ → Data → Result Query Reason
-query_in dim d = and_then (vector_in dim d) (λ vector. and_then (k_in d) (λ k. Ok (query_of vector k)))
+abbrev pub request_in : Collection → Line → Operation → Request
+request_in collection line operation = record { caller = 0; what = ask_in collection line operation }
 
-abbrev pub search_in : ℕ → Data → Result Ask Reason
-search_in dim d = and_then (query_in dim d) (λ query. and_then (level_in d) (λ level. Ok (asks.Search query level true)))
+-- ---- what a line is
 
--- what an operation asks with these members
-abbrev pub ask_in : Collection → Data → Operation → Result Ask Reason
-ask_in collection d Insert = and_then (row_in collection.dim d) (λ row. Ok (asks.Write (writes.Insert row)))
-ask_in collection d Upsert = and_then (row_in collection.dim d) (λ row. Ok (asks.Write (writes.Upsert row)))
-ask_in collection d Delete = and_then (key_in d) (λ key. Ok (asks.Write (writes.Delete key)))
-ask_in collection d Search = search_in collection.dim d
-ask_in collection d Tick = Ok asks.Tick
+-- the operation of a line; where it names none, a reason holds
+abbrev pub operation_in : Line → Operation
+operation_in line = unwrap_or (operation_at line) Tick
 
-abbrev pub request_in : Collection → Data → Result Request Reason
-request_in collection d =
-    and_then (and_then (operation_in d) (form_in d)) (λ operation.
-    and_then (ask_in collection d operation) (λ ask.
-    Ok (record { caller = 0; what = ask })))
+abbrev pub asked_by : Collection → Operation → Line → Result Request Reason
+asked_by collection operation line = refused_or (find (holds collection operation line) reasons) (request_in collection line operation)
 
--- the request that a line is, or the first reason why it is none
+abbrev pub line_request : Collection → Line → Result Request Reason
+line_request collection line = asked_by collection (operation_in line) line
+
+-- a line is refused with the first reason that holds, and where none holds it is this request
 abbrev pub request_of : Collection → List ℕ → Result Request Reason
-request_of collection bytes = and_then (json_in bytes) (λ d. and_then (object_in d) (request_in collection))
+request_of collection bytes = line_request collection (line_of bytes)
 
--- the vector and the number of a request are such as the collection takes
-pub record FitsQuery (dim : ℕ) (query : Query) : Type 0 where
-  pub vector : length query.vector ≡ dim
+-- ---- what is known of a request
+
+-- a query of the collection: its vector has the dimension, and its filter is one of the columns
+pub record FitsQuery (collection : Collection) (query : Query) : Type 0 where
+  pub vector : length query.vector ≡ collection.dim
   pub least : 1 ≤ query.k
   pub most : query.k ≤ max_k
+  pub filter : IfSome query.filter (λ filter. IsTrue (fits collection.schema.columns filter))
 
-abbrev pub FitsAsk : ℕ → Ask → Type 0
-FitsAsk dim (asks.Write write) = FitsDimension dim write
-FitsAsk dim (asks.Search query level wait) = FitsQuery dim query
-FitsAsk dim asks.Tick = Unit {0}
+abbrev pub FitsWrite : Collection → Write → Type 0
+FitsWrite collection (writes.Insert row) = IsRowOf collection row
+FitsWrite collection (writes.Upsert row) = IsRowOf collection row
+FitsWrite collection (writes.Delete key) = Unit {0}
+
+abbrev pub FitsAsk : Collection → Ask → Type 0
+FitsAsk collection (asks.Write write) = FitsWrite collection write
+FitsAsk collection (asks.Search query level wait) = FitsQuery collection query
+FitsAsk collection asks.Tick = Unit {0}
+-- no line is read as one of these yet
+FitsAsk collection (asks.Get key level wait) = ⊥
+FitsAsk collection asks.Seal = ⊥
+FitsAsk collection asks.Meet = ⊥
 
 abbrev pub Fits : Collection → Request → Type 0
-Fits collection request = FitsAsk collection.dim request.what
+Fits collection request = FitsAsk collection request.what
 
 -- an error is free where it is want of memory, and else is the reason that was found
 abbrev pub Refuses : {T : Type 0} → Result T Reason → LineError → Type 0

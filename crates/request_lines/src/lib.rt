@@ -4,6 +4,8 @@
 //! line being read as that definition says, or refused for the first reason that holds of it.
 #![tactic(auto)]
 
+mod fields;
+mod filters;
 mod headers;
 mod lines;
 mod members;

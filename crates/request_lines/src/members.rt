@@ -1,15 +1,14 @@
-//! Reading the members of a request, each with its reasons.
+//! Reading the members of a request: each function gives the value that the member has, or nothing
+//! where it has none that an operation takes.
 
-ghost use Rattle.std.specs.Prelude.{◌≡◌, ◌≤◌, Ok, length, option_map, IfOk, IfErr};
+ghost use Rattle.std.specs.Prelude.{◌≡◌, ◌≤◌, Some, length, option_map, IfOk, IfSome};
 ghost use Rattle.serde_json.specs.View.{view};
 ghost use Rattle.row_types.specs.Bits.{IsDimension};
-ghost use Rattle.request_lines.specs.Requests.{key_in, vector_in, k_in, milliseconds_of, level_of, level_in, max_k, Refuses};
+ghost use Rattle.request_lines.specs.Members.{key_at, vector_text_at, spelled, max_k, k_at, stated_delta, alone, level_of, level_at};
 
-use crate::refusals::LineError;
 use crate::values::{between, integer_at, text_at};
-use answer_lines::Reason;
 use hybrid_time::Level;
-use row_types::{BitVector, Key, VectorError};
+use row_types::{BitVector, Memory, VectorError};
 use serde_json::Value;
 use std::alloc::Global;
 
@@ -19,84 +18,83 @@ const MAX_K: u32 = 16_384;
 /// The staleness of a search that names none, in milliseconds.
 const USUAL_DELTA_MS: u32 = 5_000;
 
-pub fn key_in(value: &Value) -> Result<Key, Reason>
-    ensures { result ≡ key_in (view value.now) }
+#[tactic(auto, unfolding(crate::specs::Members::key_at))]
+pub fn key_at(value: &Value) -> Option<i64>
+    ensures { result ≡ key_at (Some (view value.now)) }
 {
-    match integer_at(value, "key") {
-        Some(number) => Ok(Key(number)),
-        None => Err(Reason::BadKey),
-    }
+    integer_at(value, "key")
 }
 
-pub fn vector_in(alloc: Global, value: &Value, dim: u32) -> Result<BitVector, LineError>
+#[tactic(auto, unfolding(crate::specs::Members::vector_text_at))]
+pub fn vector_text_at(value: &Value) -> Option<&str>
+    ensures { option_map (λ s. s.now) result ≡ vector_text_at (Some (view value.now)) }
+{
+    text_at(value, "vector")
+}
+
+/// The vector that a text spells.
+#[tactic(auto, unfolding(crate::specs::Members::spelled))]
+pub fn spelled(alloc: Global, text: &str, dim: u32) -> Result<Option<BitVector>, Memory>
     requires { IsDimension dim }
-    ensures ok { IfOk result (λ vector. vector_in dim (view value.now) ≡ Ok vector) }
-    ensures err { IfErr result (Refuses (vector_in dim (view value.now))) }
-    ensures dim { IfOk result (λ vector. length vector ≡ dim) }
+    ensures same { IfOk result (λ vector. vector ≡ spelled dim text.now) }
+    ensures dim { IfOk result (λ found. IfSome found (λ vector. length vector ≡ dim)) }
 {
-    let Some(text) = text_at(value, "vector") else {
-        return Err(LineError::Refused(Reason::NoVector));
-    };
     match BitVector::from_digits(alloc, text, dim) {
-        Ok(vector) => Ok(vector),
-        Err(VectorError::Memory) => Err(LineError::Memory),
-        Err(_) => Err(LineError::Refused(Reason::BadVector)),
+        Ok(vector) => Ok(Some(vector)),
+        Err(VectorError::Memory) => Err(Memory),
+        Err(_) => Ok(None),
     }
 }
 
-pub fn k_in(value: &Value) -> Result<u32, Reason>
-    ensures same { result ≡ k_in (view value.now) }
-    ensures least { IfOk result (λ k. 1 ≤ k) }
-    ensures most { IfOk result (λ k. k ≤ max_k) }
+#[tactic(auto, unfolding(crate::specs::Members::k_at))]
+pub fn k_at(value: &Value) -> Option<u32>
+    ensures same { result ≡ k_at (Some (view value.now)) }
+    ensures least { IfSome result (λ k. 1 ≤ k) }
+    ensures most { IfSome result (λ k. k ≤ max_k) }
 {
-    let Some(number) = integer_at(value, "k") else {
-        return Err(Reason::BadK);
-    };
-    match between(1, MAX_K, number) {
-        Some(k) => Ok(k),
-        None => Err(Reason::BadK),
+    between(1, MAX_K, integer_at(value, "k")?)
+}
+
+fn delta_of(delta: Option<&Value>) -> Option<u32>
+    ensures { result ≡ stated_delta (option_map (λ v. view v.now) delta.entry) }
+{
+    match delta {
+        Some(value) => between(0, u32::MAX, value.as_i64()?),
+        None => Some(USUAL_DELTA_MS),
     }
 }
 
-fn milliseconds_of(value: &Value) -> Option<u32>
-    ensures { result ≡ milliseconds_of (view value.now) }
+fn alone(level: Level, delta: Option<&Value>) -> Option<Level>
+    ensures { result ≡ alone level (option_map (λ v. view v.now) delta.entry) }
 {
-    between(0, u32::MAX, value.as_i64()?)
+    match delta {
+        Some(_) => None,
+        None => Some(level),
+    }
 }
 
+/// The level of a name, beside what stands at `delta_ms`.
 fn level_of(delta: Option<&Value>, name: &str) -> Option<Level>
     ensures { result ≡ level_of (option_map (λ v. view v.now) delta.entry) name.now }
 {
-    if name == "Bounded" {
-        let delta_ms = match delta {
-            Some(value) => milliseconds_of(value)?,
-            None => USUAL_DELTA_MS,
-        };
-        return Some(Level::Bounded { delta_ms });
-    }
-    if delta.is_some() {
-        return None;
-    }
     match name {
-        "Strong" => Some(Level::Strong),
-        "Session" => Some(Level::Session),
-        "Eventually" => Some(Level::Eventually),
+        "Bounded" => Some(Level::Bounded {
+            delta_ms: delta_of(delta)?,
+        }),
+        "Strong" => alone(Level::Strong, delta),
+        "Session" => alone(Level::Session, delta),
+        "Eventually" => alone(Level::Eventually, delta),
         _ => None,
     }
 }
 
-pub fn level_in(value: &Value) -> Result<Level, Reason>
-    ensures { result ≡ level_in (view value.now) }
+#[tactic(auto, unfolding(crate::specs::Members::level_at))]
+pub fn level_at(value: &Value) -> Option<Level>
+    ensures { result ≡ level_at (Some (view value.now)) }
 {
     let name = match value.get("level") {
-        Some(level) => level.as_str(),
-        None => Some("Bounded"),
+        Some(level) => level.as_str()?,
+        None => "Bounded",
     };
-    let Some(name) = name else {
-        return Err(Reason::BadLevel);
-    };
-    match level_of(value.get("delta_ms"), name) {
-        Some(level) => Ok(level),
-        None => Err(Reason::BadLevel),
-    }
+    level_of(value.get("delta_ms"), name)
 }

@@ -1,18 +1,25 @@
 //! The operations that a line can name, and what they ask.
 
-ghost use Rattle.std.specs.Prelude.{◌≡◌, Ok, length, IfOk, IfErr};
+ghost use Rattle.std.specs.Prelude.{◌≡◌, Some, Ok, IfOk, IfErr, length};
 ghost use Rattle.serde_json.specs.View.{view};
 ghost use Rattle.row_types.specs.Bits.{IsDimension};
-ghost use Rattle.request_lines.specs.Requests.{operation_of, operation_in, form_in, row_in, query_in, search_in, ask_in, Refuses, FitsQuery, FitsAsk};
+ghost use Rattle.coarse_lists.specs.Collections.{IsRowOf};
+ghost use Rattle.coarse_lists.specs.declared.collections.Collection.{Collection as Spec};
+ghost use Rattle.request_lines.specs.Json.{named, has_only};
+ghost use Rattle.request_lines.specs.Requests.{operations, members_of, operation_at, FitsAsk, Refuses};
+ghost use Rattle.request_lines.specs.Parts.{operation_read, vector_read, row_read, search_read, ask_read};
 
-use crate::members::{k_in, key_in, level_in, vector_in};
+use crate::fields::fields_at;
+use crate::filters::filter_at;
+use crate::headers::creates;
+use crate::members::{k_at, key_at, level_at, spelled, vector_text_at};
 use crate::refusals::LineError;
 use crate::requests::Ask;
 use crate::values::{has_only, text_at};
 use answer_lines::Reason;
 use coarse_lists::Collection;
 use log_model::{Query, Write};
-use row_types::{List, Row};
+use row_types::{BitVector, Key, Row};
 use serde_json::Value;
 use std::alloc::Global;
 
@@ -26,76 +33,99 @@ pub enum Operation {
     Tick,
 }
 
-fn operation_of(name: &str) -> Result<Operation, Reason>
-    ensures { result ≡ operation_of name.now }
+fn operation_of(name: &str) -> Option<Operation>
+    ensures { result ≡ named operations name.now }
 {
     match name {
-        "insert" => Ok(Operation::Insert),
-        "upsert" => Ok(Operation::Upsert),
-        "delete" => Ok(Operation::Delete),
-        "search" => Ok(Operation::Search),
-        "tick" => Ok(Operation::Tick),
-        "create" => Err(Reason::LateCreate),
-        _ => Err(Reason::BadOp),
+        "insert" => Some(Operation::Insert),
+        "upsert" => Some(Operation::Upsert),
+        "delete" => Some(Operation::Delete),
+        "search" => Some(Operation::Search),
+        "tick" => Some(Operation::Tick),
+        _ => None,
     }
 }
 
-/// The operation that a line names.
-pub fn operation_in(value: &Value) -> Result<Operation, Reason>
-    ensures { result ≡ operation_in (view value.now) }
+#[tactic(auto, unfolding(crate::specs::Requests::operation_at))]
+fn operation_at(value: &Value) -> Option<Operation>
+    ensures { result ≡ operation_at (Some (view value.now)) }
 {
-    match text_at(value, "op") {
-        Some(name) => operation_of(name),
-        None => Err(Reason::BadOp),
-    }
+    operation_of(text_at(value, "op")?)
 }
 
-/// The operation, where the line has no other members than it may have.
-pub fn form_in(value: &Value, operation: Operation) -> Result<Operation, Reason>
-    ensures { result ≡ form_in (view value.now) operation }
+/// Whether a line has no other members than its operation may have.
+fn has_members(value: &Value, operation: Operation) -> bool
+    ensures { result ≡ has_only (members_of operation) (Some (view value.now)) }
 {
-    let known = match operation {
-        Operation::Insert | Operation::Upsert => has_only(value, &["op", "key", "vector"]),
+    match operation {
+        Operation::Insert | Operation::Upsert => {
+            has_only(value, &["op", "key", "vector", "fields"])
+        }
         Operation::Delete => has_only(value, &["op", "key"]),
-        Operation::Search => has_only(value, &["op", "vector", "k", "level", "delta_ms"]),
+        Operation::Search => has_only(value, &["op", "vector", "k", "level", "delta_ms", "filter"]),
         Operation::Tick => has_only(value, &["op"]),
-    };
-    if known {
-        Ok(operation)
-    } else {
-        Err(Reason::UnknownMember)
     }
 }
 
-fn row_in(alloc: Global, value: &Value, dim: u32) -> Result<Row, LineError>
-    requires { IsDimension dim }
-    ensures ok { IfOk result (λ row. row_in dim (view value.now) ≡ Ok row) }
-    ensures err { IfErr result (Refuses (row_in dim (view value.now))) }
-    ensures dim { IfOk result (λ row. length row.vector ≡ dim) }
+/// The operation of a line that is an object of its members.
+pub fn operation_in(value: &Value) -> Result<Operation, Reason>
+    ensures { (collection : Spec) → result ≡ operation_read collection (Some (view value.now)) }
 {
-    let key = match key_in(value) {
-        Ok(key) => key,
-        Err(reason) => return Err(LineError::Refused(reason)),
-    };
-    let vector = vector_in(alloc, value, dim)?;
+    if !value.is_object() {
+        return Err(Reason::NotObject);
+    }
+    if creates(value) {
+        return Err(Reason::LateCreate);
+    }
+    let operation = operation_at(value).ok_or(Reason::BadOp)?;
+    if !has_members(value, operation) {
+        return Err(Reason::UnknownMember);
+    }
+    Ok(operation)
+}
+
+fn vector_in(alloc: Global, collection: &Collection, value: &Value) -> Result<BitVector, LineError>
+    requires { IsDimension collection.now.dim }
+    ensures ok { IfOk result (λ vector. vector_read collection.now (Some (view value.now)) ≡ Ok vector) }
+    ensures err { IfErr result (Refuses (vector_read collection.now (Some (view value.now)))) }
+    ensures dim { IfOk result (λ vector. length vector ≡ collection.now.dim) }
+{
+    let text = vector_text_at(value).ok_or(Reason::NoVector)?;
+    let vector = spelled(alloc, text, collection.dim)?.ok_or(Reason::BadVector)?;
+    Ok(vector)
+}
+
+fn row_in(alloc: Global, collection: &Collection, value: &Value) -> Result<Row, LineError>
+    requires { IsDimension collection.now.dim }
+    ensures ok { IfOk result (λ row. row_read collection.now (Some (view value.now)) ≡ Ok row) }
+    ensures err { IfErr result (Refuses (row_read collection.now (Some (view value.now)))) }
+    ensures fits { IfOk result (IsRowOf collection.now) }
+{
+    let key = key_at(value).ok_or(Reason::BadKey)?;
+    let vector = vector_in(alloc, collection, value)?;
+    let fields = fields_at(alloc, value, &collection.schema)?.ok_or(Reason::BadFields)?;
     Ok(Row {
-        key,
+        key: Key(key),
         vector,
-        fields: List::empty(alloc),
+        fields,
     })
 }
 
-fn query_in(alloc: Global, value: &Value, dim: u32) -> Result<Query, LineError>
-    requires { IsDimension dim }
-    ensures ok { IfOk result (λ query. query_in dim (view value.now) ≡ Ok query) }
-    ensures err { IfErr result (Refuses (query_in dim (view value.now))) }
-    ensures fits { IfOk result (FitsQuery dim) }
+fn search_in(alloc: Global, collection: &Collection, value: &Value) -> Result<Ask, LineError>
+    requires { IsDimension collection.now.dim }
+    ensures ok { IfOk result (λ ask. search_read collection.now (Some (view value.now)) ≡ Ok ask) }
+    ensures err { IfErr result (Refuses (search_read collection.now (Some (view value.now)))) }
+    ensures fits { IfOk result (FitsAsk collection.now) }
 {
-    let vector = vector_in(alloc, value, dim)?;
-    match k_in(value) {
-        Ok(k) => Ok(Query { vector, k }),
-        Err(reason) => Err(LineError::Refused(reason)),
-    }
+    let vector = vector_in(alloc, collection, value)?;
+    let k = k_at(value).ok_or(Reason::BadK)?;
+    let level = level_at(value).ok_or(Reason::BadLevel)?;
+    let filter = filter_at(alloc, value, &collection.schema)?.ok_or(Reason::BadFilter)?;
+    Ok(Ask::Search {
+        query: Query { vector, k, filter },
+        level,
+        wait: true,
+    })
 }
 
 /// What an operation asks with the members of a line.
@@ -106,36 +136,18 @@ pub fn ask_in(
     operation: Operation,
 ) -> Result<Ask, LineError>
     requires { IsDimension collection.now.dim }
-    ensures ok { IfOk result (λ ask. ask_in collection.now (view value.now) operation ≡ Ok ask) }
-    ensures err { IfErr result (Refuses (ask_in collection.now (view value.now) operation)) }
-    ensures fits { IfOk result (FitsAsk collection.now.dim) }
+    ensures ok { IfOk result (λ ask. ask_read collection.now operation (Some (view value.now)) ≡ Ok ask) }
+    ensures err { IfErr result (Refuses (ask_read collection.now operation (Some (view value.now)))) }
+    ensures fits { IfOk result (FitsAsk collection.now) }
 {
-    let dim = collection.dim;
     match operation {
-        Operation::Insert => Ok(Ask::Write(Write::Insert(row_in(alloc, value, dim)?))),
-        Operation::Upsert => Ok(Ask::Write(Write::Upsert(row_in(alloc, value, dim)?))),
-        Operation::Delete => match key_in(value) {
-            Ok(key) => Ok(Ask::Write(Write::Delete(key))),
-            Err(reason) => Err(LineError::Refused(reason)),
-        },
-        Operation::Search => search_in(alloc, value, dim),
+        Operation::Insert => Ok(Ask::Write(Write::Insert(row_in(alloc, collection, value)?))),
+        Operation::Upsert => Ok(Ask::Write(Write::Upsert(row_in(alloc, collection, value)?))),
+        Operation::Delete => {
+            let key = key_at(value).ok_or(Reason::BadKey)?;
+            Ok(Ask::Write(Write::Delete(Key(key))))
+        }
+        Operation::Search => search_in(alloc, collection, value),
         Operation::Tick => Ok(Ask::Tick),
-    }
-}
-
-fn search_in(alloc: Global, value: &Value, dim: u32) -> Result<Ask, LineError>
-    requires { IsDimension dim }
-    ensures ok { IfOk result (λ ask. search_in dim (view value.now) ≡ Ok ask) }
-    ensures err { IfErr result (Refuses (search_in dim (view value.now))) }
-    ensures fits { IfOk result (FitsAsk dim) }
-{
-    let query = query_in(alloc, value, dim)?;
-    match level_in(value) {
-        Ok(level) => Ok(Ask::Search {
-            query,
-            level,
-            wait: true,
-        }),
-        Err(reason) => Err(LineError::Refused(reason)),
     }
 }

@@ -2,6 +2,7 @@
 
 use hybrid_time::Level;
 use log_model::{Query, Write};
+use row_types::Key;
 
 /// What a caller asks.
 #[derive(Debug, Drop)]
@@ -22,6 +23,17 @@ pub enum Ask {
         /// Whether the search may wait until a snapshot is fresh enough.
         wait: bool,
     },
+    /// The row of a key in a snapshot that is as fresh as the level says.
+    Get {
+        key: Key,
+        level: Level,
+        /// Whether the read may wait until a snapshot is fresh enough.
+        wait: bool,
+    },
     /// A tick in each channel.
     Tick,
+    /// The end of each channel's tail, which becomes a segment.
+    Seal,
+    /// That all work comes to rest; no caller asks it.
+    Meet,
 }

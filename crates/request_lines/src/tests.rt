@@ -4,8 +4,29 @@ use crate::{Ask, Collection, LineError, read_header, read_line};
 use answer_lines::Reason;
 use hybrid_time::Level;
 use log_model::Write;
-use row_types::Key;
+use row_types::{CompareOp, Field, Filter, Key, Kind, Metric, Operand};
+use std::alloc::{AllocError, Global};
 use std::test::Fail;
+
+/// Documents with a language and a year.
+const DOCUMENTS: &[u8] =
+    br#"{"op":"create","dim":8,"metric":"JACCARD","fields":[{"name":"lang","type":"VARCHAR"},{"name":"year","type":"INT64"}]}"#;
+
+/// A line in which a piece stands so many times.
+fn line_of(
+    alloc: Global,
+    before: &str,
+    piece: &str,
+    times: u32,
+    after: &str,
+) -> Result<String, AllocError> {
+    let mut line = String::from_str(alloc, before)?;
+    for _ in 0..times {
+        line.push_str(piece)?;
+    }
+    line.push_str(after)?;
+    Ok(line)
+}
 
 #[test]
 fn only_a_create_line_makes_a_collection(rt: HostRuntime) -> Result<(), Fail> {
@@ -21,6 +42,41 @@ fn only_a_create_line_makes_a_collection(rt: HostRuntime) -> Result<(), Fail> {
         (r#"{"op":"create"}"#, None),
         (r#"{"op":"tick","dim":8}"#, None),
         (r#"{"op":"create","dim":8,"shards":1}"#, None),
+        (r#"{"op":"create","dim":8,"metric":"JACCARD"}"#, Some(8)),
+        (r#"{"op":"create","dim":8,"metric":"jaccard"}"#, None),
+        (r#"{"op":"create","dim":8,"metric":null}"#, None),
+        (r#"{"op":"create","dim":8,"fields":[]}"#, Some(8)),
+        (r#"{"op":"create","dim":8,"fields":{}}"#, None),
+        (r#"{"op":"create","dim":8,"fields":["lang"]}"#, None),
+        (
+            r#"{"op":"create","dim":8,"fields":[{"name":"a","type":"BOOL"}]}"#,
+            Some(8),
+        ),
+        (r#"{"op":"create","dim":8,"fields":[{"name":"a"}]}"#, None),
+        (
+            r#"{"op":"create","dim":8,"fields":[{"name":"a","type":"TEXT"}]}"#,
+            None,
+        ),
+        (
+            r#"{"op":"create","dim":8,"fields":[{"name":"a","type":"BOOL","x":1}]}"#,
+            None,
+        ),
+        (
+            r#"{"op":"create","dim":8,"fields":[{"name":"key","type":"BOOL"}]}"#,
+            None,
+        ),
+        (
+            r#"{"op":"create","dim":8,"fields":[{"name":"","type":"BOOL"}]}"#,
+            None,
+        ),
+        (
+            r#"{"op":"create","dim":8,"fields":[{"name":"1a","type":"BOOL"}]}"#,
+            None,
+        ),
+        (
+            r#"{"op":"create","dim":8,"fields":[{"name":"a","type":"BOOL"},{"name":"a","type":"INT64"}]}"#,
+            None,
+        ),
         (r#"["create",8]"#, None),
         ("create", None),
         ("", None),
@@ -37,7 +93,7 @@ fn only_a_create_line_makes_a_collection(rt: HostRuntime) -> Result<(), Fail> {
 
 #[test]
 fn a_line_is_refused_for_the_first_reason(rt: HostRuntime) -> Result<(), Fail> {
-    let collection = read_header(rt.alloc(), br#"{"op":"create","dim":8}"#)?;
+    let collection = read_header(rt.alloc(), DOCUMENTS)?;
     for (line, want) in [
         ("{", Reason::NotJson),
         ("", Reason::NotJson),
@@ -60,7 +116,39 @@ fn a_line_is_refused_for_the_first_reason(rt: HostRuntime) -> Result<(), Fail> {
             Reason::BadVector,
         ),
         (
-            r#"{"op":"search","vector":"00","k":0,"level":1}"#,
+            r#"{"op":"insert","key":1,"vector":"00","k":1}"#,
+            Reason::UnknownMember,
+        ),
+        (
+            r#"{"op":"insert","key":1,"vector":"00"}"#,
+            Reason::BadFields,
+        ),
+        (
+            r#"{"op":"insert","key":1,"vector":"00","fields":[]}"#,
+            Reason::BadFields,
+        ),
+        (
+            r#"{"op":"insert","key":1,"vector":"00","fields":{"lang":"en"}}"#,
+            Reason::BadFields,
+        ),
+        (
+            r#"{"op":"insert","key":1,"vector":"00","fields":{"lang":"en","year":"2021"}}"#,
+            Reason::BadFields,
+        ),
+        (
+            r#"{"op":"insert","key":1,"vector":"00","fields":{"lang":"en","year":2021.0}}"#,
+            Reason::BadFields,
+        ),
+        (
+            r#"{"op":"insert","key":1,"vector":"00","fields":{"lang":"en","year":null}}"#,
+            Reason::BadFields,
+        ),
+        (
+            r#"{"op":"upsert","key":1,"vector":"00","fields":{"lang":"en","year":2021,"size":1}}"#,
+            Reason::BadFields,
+        ),
+        (
+            r#"{"op":"search","vector":"00","k":0,"level":1,"filter":1}"#,
             Reason::BadK,
         ),
         (r#"{"op":"search","vector":"00","k":16385}"#, Reason::BadK),
@@ -73,8 +161,24 @@ fn a_line_is_refused_for_the_first_reason(rt: HostRuntime) -> Result<(), Fail> {
             Reason::BadLevel,
         ),
         (
-            r#"{"op":"search","vector":"00","k":1,"delta_ms":4294967296}"#,
+            r#"{"op":"search","vector":"00","k":1,"delta_ms":4294967296,"filter":"key =="}"#,
             Reason::BadLevel,
+        ),
+        (
+            r#"{"op":"search","vector":"00","k":1,"filter":1}"#,
+            Reason::BadFilter,
+        ),
+        (
+            r#"{"op":"search","vector":"00","k":1,"filter":"key =="}"#,
+            Reason::BadFilter,
+        ),
+        (
+            r#"{"op":"search","vector":"00","k":1,"filter":"nam"}"#,
+            Reason::BadFilter,
+        ),
+        (
+            r#"{"op":"search","vector":"00","k":1,"filter":"key == \"a\""}"#,
+            Reason::BadFilter,
         ),
     ] {
         let refusal = read_line(rt.alloc(), line.as_bytes(), &collection).err();
@@ -148,5 +252,123 @@ fn writes_and_ticks_are_read(rt: HostRuntime) -> Result<(), Fail> {
     assert!(rt; matches!(&delete.what, Ask::Write(Write::Delete(Key(i64::MAX)))));
     let tick = read_line(rt.alloc(), br#"{"op":"tick"}"#, &collection)?;
     assert!(rt; matches!(&tick.what, Ask::Tick));
+    Ok(())
+}
+
+#[test]
+fn a_header_has_its_metric_and_columns(rt: HostRuntime) -> Result<(), Fail> {
+    let collection = read_header(rt.alloc(), DOCUMENTS)?;
+    assert_eq!(rt; collection.metric, Metric::Jaccard);
+    let columns = collection.schema.columns.as_slice();
+    assert_eq!(rt; columns.len(), 2);
+    assert!(rt; columns[0].0.is("lang"));
+    assert_eq!(rt; columns[0].1, Kind::Text);
+    assert!(rt; columns[1].0.is("year"));
+    assert_eq!(rt; columns[1].1, Kind::Int);
+    let plain = read_header(rt.alloc(), br#"{"op":"create","dim":8}"#)?;
+    assert_eq!(rt; plain.metric, Metric::Hamming);
+    assert!(rt; plain.schema.columns.as_slice().is_empty());
+    Ok(())
+}
+
+#[test]
+fn fields_stand_in_the_order_of_the_columns(rt: HostRuntime) -> Result<(), Fail> {
+    let collection = read_header(rt.alloc(), DOCUMENTS)?;
+    let line =
+        br#"{"op":"insert","key":1,"vector":"0f","fields":{"year":1,"year":2021,"lang":"en"}}"#;
+    let insert = read_line(rt.alloc(), line, &collection)?;
+    assert!(rt;
+        matches!(&insert.what, Ask::Write(Write::Insert(row)) if is_english(row.fields.as_slice()))
+    );
+    Ok(())
+}
+
+fn is_english(fields: &[Field]) -> bool {
+    match fields {
+        [Field::Text(lang), Field::Int(2021)] => lang.is("en"),
+        _ => false,
+    }
+}
+
+#[test]
+fn a_search_has_its_filter(rt: HostRuntime) -> Result<(), Fail> {
+    let collection = read_header(rt.alloc(), DOCUMENTS)?;
+    for (line, want) in [
+        (r#"{"op":"search","vector":"0f","k":1}"#, false),
+        (r#"{"op":"search","vector":"0f","k":1,"filter":""}"#, false),
+        (
+            r#"{"op":"search","vector":"0f","k":1,"filter":"   "}"#,
+            false,
+        ),
+        (
+            r#"{"op":"search","vector":"0f","k":1,"filter":"year >= 2020"}"#,
+            true,
+        ),
+    ] {
+        let request = read_line(rt.alloc(), line.as_bytes(), &collection)?;
+        match &request.what {
+            Ask::Search { query, .. } => match &query.filter {
+                Some(filter) => assert!(rt; want && is_recent(filter), "at {line}"),
+                None => assert!(rt; !want, "at {line}"),
+            },
+            _ => assert!(rt; false, "at {line}"),
+        }
+    }
+    Ok(())
+}
+
+fn is_recent(filter: &Filter) -> bool {
+    matches!(
+        filter,
+        Filter::Compare {
+            left: Operand::Column(1),
+            op: CompareOp::GreaterEqual,
+            right: Field::Int(2020),
+        }
+    )
+}
+
+#[test]
+fn what_is_one_longer_than_the_limit_is_refused(rt: HostRuntime) -> Result<(), Fail> {
+    let collection = read_header(rt.alloc(), DOCUMENTS)?;
+    for (before, piece, most, after, want) in [
+        (
+            r#"{"op":"insert","key":1,"vector":"0f","fields":{"year":1,"lang":""#,
+            "a",
+            1_024,
+            r#""}}"#,
+            Reason::BadFields,
+        ),
+        (
+            r#"{"op":"search","vector":"0f","k":1,"filter":""#,
+            " ",
+            4_096,
+            r#""}"#,
+            Reason::BadFilter,
+        ),
+        (
+            r#"{"op":"search","vector":"0f","k":1,"filter":"key == 1"#,
+            " ",
+            4_088,
+            r#""}"#,
+            Reason::BadFilter,
+        ),
+        (
+            r#"{"op":"search","vector":"0f","k":1,"filter":""#,
+            "!",
+            32,
+            r#"key == 1"}"#,
+            Reason::BadFilter,
+        ),
+    ] {
+        let good = line_of(rt.alloc(), before, piece, most, after)?;
+        assert!(rt;
+            read_line(rt.alloc(), good.as_bytes(), &collection).is_ok(),
+            "at {before}"
+        );
+        let long = line_of(rt.alloc(), before, piece, most + 1, after)?;
+        let refusal = read_line(rt.alloc(), long.as_bytes(), &collection).err();
+        assert_eq!(rt; refusal, Some(LineError::Refused(want)), "at {before}");
+    }
     Ok(())
 }

@@ -1,12 +1,12 @@
 //! What stands in the JSON of a line.
 
-ghost use Rattle.std.specs.Prelude.{◌≡◌, ◌≤◌, map, option_map, IfOk, IfSome};
+ghost use Rattle.std.specs.Prelude.{◌≡◌, ◌≤◌, Some, map, option_map, IfOk, IfSome};
 ghost use Rattle.std.specs.List.{list_any, list_all};
 ghost use Rattle.std.specs.Str.{bytes_eq};
 ghost use Rattle.std.specs.String.{string_bytes};
 ghost use Rattle.std.specs.BTreeMap.{keys};
 ghost use Rattle.serde_json.specs.View.{view};
-ghost use Rattle.request_lines.specs.Json.{value_of, text_at, integer_at, between, has_only};
+ghost use Rattle.request_lines.specs.Json.{line_of, text_at, integer_at, between, has_only};
 
 use row_types::Memory;
 use serde_json::{Category, Map, Value};
@@ -14,7 +14,7 @@ use std::alloc::Global;
 
 /// The value that the bytes of a line spell, if they spell one.
 pub fn read_value(alloc: Global, bytes: &[u8]) -> Result<Option<Value>, Memory>
-    ensures { IfOk result (λ found. option_map view found ≡ value_of bytes.now) }
+    ensures { IfOk result (λ found. option_map view found ≡ line_of bytes.now) }
 {
     let Ok(text) = str::from_utf8(bytes) else {
         return Ok(None);
@@ -28,14 +28,14 @@ pub fn read_value(alloc: Global, bytes: &[u8]) -> Result<Option<Value>, Memory>
 
 /// The text of a member.
 pub fn text_at<'a>(value: &'a Value, name: &str) -> Option<&'a str>
-    ensures { option_map (λ s. s.now) result ≡ text_at name.now (view value.now) }
+    ensures { option_map (λ s. s.now) result ≡ text_at name.now (Some (view value.now)) }
 {
     value.get(name).and_then(Value::as_str)
 }
 
 /// The integer of a member.
 pub fn integer_at(value: &Value, name: &str) -> Option<i64>
-    ensures { result ≡ integer_at name.now (view value.now) }
+    ensures { result ≡ integer_at name.now (Some (view value.now)) }
 {
     value.get(name).and_then(Value::as_i64)
 }
@@ -66,7 +66,7 @@ fn keys_are(members: &Map<String, Value>, names: &[&str]) -> bool
 
 /// Whether the value is an object with no other members than these.
 pub fn has_only(value: &Value, names: &[&str]) -> bool
-    ensures { result ≡ has_only (map (λ n. n.now) names.now) (view value.now) }
+    ensures { result ≡ has_only (map (λ n. n.now) names.now) (Some (view value.now)) }
 {
     match value.as_object() {
         Some(members) => keys_are(members, names),

@@ -74,7 +74,8 @@ impl Marks {
 
     /// The delete log of the marks of a segment.
     pub fn to_log(&self, alloc: Global, segment: u64) -> Result<DeleteLog, Memory>
-        ensures { IfOk result (λ log. log ≡ delete_log_of segment self.now.applied self.now.deaths) }
+        ensures log { IfOk result (λ log. log ≡ delete_log_of segment self.now.applied self.now.deaths) }
+        ensures rise { IfOk result (λ log. RowsRise log.marks) }
     {
         let marks = self.frozen.with(alloc, self.latest.as_slice())?;
         Ok(DeleteLog {

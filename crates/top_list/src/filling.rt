@@ -1,12 +1,11 @@
 //! A top list while it is filled.
 
-ghost use Rattle.std.specs.Prelude.{◌≡◌, ℕ, ℤ, ◌<◌, ◌^◌, ◌∷◌, ◌++◌, [], vec_len, vec_capacity, IfSome};
+ghost use Rattle.std.specs.Prelude.{◌≡◌, ℕ, ℤ, ◌+◌, ◌<◌, ◌≤◌, ◌^◌, ◌∷◌, ◌++◌, [], length, vec_len, vec_capacity, IfSome, MatchOption};
 ghost use Rattle.std.specs.declared.cmp.Ordering.TheVariants.{Less};
 ghost use Rattle.row_types.specs.declared.hits.Distance.TheVariants.{Hamming};
 ghost use Rattle.row_types.specs.Hits.{least, value_cmp};
-ghost use Rattle.top_list.specs.Kept.{IsBehindAll};
+ghost use Rattle.top_list.specs.Kept.{IsBehindAll, IsLast, is_after};
 
-use crate::buffers::{cut, is_behind, push_hit};
 use crate::tops::TopList;
 use row_types::{Distance, Hit};
 use std::marker::Model;
@@ -92,7 +91,8 @@ impl Gather {
     /// The greatest Hamming distance, in bits, that may still be kept; `u32::MAX` where any may.
     pub fn limit(&self) -> u32
         ensures own { self.now.hits ≡ least self.now.k self.now.hits }
-        ensures far { (d : ℕ) (key : ℤ) → result < d → d < 2 ^ 32 → least self.now.k (self.now.hits ++ record { distance = Hamming d; key = record { 0 = key } } ∷ []) ≡ self.now.hits }
+        ensures far { (d : ℕ) (key : ℤ) → result < d → d < 2 ^ 32 →
+            least self.now.k (self.now.hits ++ record { distance = Hamming d; key = record { 0 = key } } ∷ []) ≡ self.now.hits }
     {
         match self.last {
             Some(last) => reach(last.distance),
@@ -108,5 +108,52 @@ fn reach(distance: Distance) -> u32
     match distance {
         Distance::Hamming(bits) => bits,
         Distance::Jaccard { .. } => u32::MAX,
+    }
+}
+
+// Adds a hit at the end.
+fn push_hit(hits: &mut Vec<Hit>, hit: Hit)
+    requires { vec_len hits.old < vec_capacity hits.old }
+    ensures items { hits.new.items ≡ hits.old.items ++ hit ∷ [] }
+    ensures len { vec_len hits.new ≡ vec_len hits.old + 1 }
+    ensures capacity { vec_capacity hits.old ≤ vec_capacity hits.new }
+{
+    let _pushed = hits.push(hit);
+}
+
+// Puts the hits in order, each once, and drops those behind the first k. Gives the last of k hits,
+// and none where there are fewer.
+pub(crate) fn cut(hits: &mut Vec<Hit>, k: u32) -> Option<Hit>
+    requires { 0 < k }
+    ensures items { hits.new.items ≡ least k hits.old.items }
+    ensures len { vec_len hits.new ≤ k }
+    ensures capacity { vec_capacity hits.new ≡ vec_capacity hits.old }
+    ensures last { MatchOption result (vec_len hits.new < k) (IsLast k hits.new.items) }
+{
+    hits.sort_unstable();
+    hits.dedup();
+    hits.truncate(k as usize);
+    last_of(hits, k)
+}
+
+// The last of k hits that rise, and none where there are fewer.
+pub(crate) fn last_of(hits: &[Hit], k: u32) -> Option<Hit>
+    requires some { 0 < k }
+    requires own { least k hits.now ≡ hits.now }
+    ensures { MatchOption result (length hits.now < k) (IsLast k hits.now) }
+{
+    if hits.len() < k as usize {
+        return None;
+    }
+    hits.last().copied()
+}
+
+// Whether the hit comes after one that is known to be the last of k.
+pub(crate) fn is_behind(last: Option<Hit>, hit: &Hit) -> bool
+    ensures { result ≡ is_after last hit.now }
+{
+    match last {
+        Some(last) => last.before(hit),
+        None => false,
     }
 }

@@ -5,7 +5,6 @@
 //! holds and of what is offered later are the k least of all that was offered.
 #![tactic(auto)]
 
-mod buffers;
 mod filling;
 mod tops;
 mod windows;

@@ -5,8 +5,7 @@ ghost use Rattle.std.specs.List.Sorted.{IsStrictlySortedBy};
 ghost use Rattle.row_types.specs.Hits.{hit_cmp, least, IsOneDistanceAKey, IsEachKeyOnce};
 ghost use Rattle.top_list.specs.Kept.{hits_of};
 
-use crate::buffers::{cut, place};
-use crate::filling::Gather;
+use crate::filling::{Gather, cut, is_behind, last_of};
 use crate::windows::Window;
 use row_types::{Hit, Memory};
 use std::alloc::Global;
@@ -95,5 +94,23 @@ impl TopList {
             gather.offer_all(list.hits());
         }
         Ok(gather.settle())
+    }
+}
+
+// Puts a hit in its place among at most k hits that rise, and keeps k.
+fn place(window: &mut Window, k: u32, hit: Hit)
+    requires some { 0 < k }
+    requires own { least k window.old.hits ≡ window.old.hits }
+    requires room { k < window.old.room }
+    ensures hits { window.new.hits ≡ least k (window.old.hits ++ hit ∷ []) }
+    ensures room { k < window.new.room }
+{
+    let hits = window.as_slice();
+    if is_behind(last_of(hits, k), &hit) {
+        return;
+    }
+    if let Err(at) = hits.binary_search(&hit) {
+        window.insert(k, at, hit);
+        window.truncate(k);
     }
 }

@@ -1,4 +1,4 @@
-//! Boards.
+//! Entries behind turns, and the journal that contracts see in them.
 ghost use Rattle.std.specs.Prelude.{◌≡◌, ◌-◌, ◌+◌, ◌^◌, ◌≤◌, [], ◌∷◌, ◌++◌, OnOk, OnErr};
 
 use row_types::Memory;

@@ -1,4 +1,5 @@
-//! The smallest value that stands behind turns: a board of entries, each with the seat that wrote it and the number that the seat drew.
+//! The smallest value that stands behind turns: a board of entries, each with the seat that wrote it and
+//! the number that the seat drew.
 //!
 //! It shows how a caller of the turn table works, and tries the table on threads.
 #![tactic(auto)]

@@ -65,6 +65,7 @@ module _ {S C : Type 0} (holds : List ℕ → Homes S → List C → Type 0) whe
       many = length-map (map Some xs) some ∙ length-map xs Some;
       wide = wide;
       sits = λ j a t h. absurd (nobody v j a t h);
+      held = λ k m near from to. let a = blank k (omega arith) in absurd (omega arith);
       apart = λ i j a b t u p q. absurd (nobody v i a t p);
       ordered = λ k near. let a = blank k (omega arith) in let b = blank (n + k) (omega arith) in omega arith;
       placed = λ k h e. placed_first (doing [] v ∷ []) xs k k h e;

@@ -8,7 +8,7 @@ use lib.ListN.{get_elem?}
 use Rattle.atomic_table.proofs.Lists.{at_set, set_here, set_else, at_longer, at_snoc}
 use Rattle.turn_lock.specs.declared.tickets.Doing.{Doing}
 use Rattle.turn_lock.specs.declared.tickets.Ticket.{Ticket}
-use Rattle.turn_lock.specs.Tickets.{Has, Apart}
+use Rattle.turn_lock.specs.Tickets.{Has, IsHeld, Apart}
 
 pub within : {A : Type 0} (l : List A) (i : ℕ) (a : A) → get_elem? l i ≡ some a → i < length l
 within [] i a e = absurd (some-ne-none a (sym e))
@@ -30,6 +30,10 @@ swapped_at : (old new : Ticket) (ts : List Ticket) (a : ℕ) (t : Ticket) → ol
     → (u : Ticket) × (get_elem? (old ∷ ts) a ≡ some u) × (u.slot ≡ t.slot) × (u.number ≡ t.number)
 swapped_at old new ts zero t s n e = (old, refl, s ∙ ap (λ (z : Ticket). z.slot) (some-injective new t e), n ∙ ap (λ (z : Ticket). z.number) (some-injective new t e))
 swapped_at old new ts (suc a) t s n e = (t, e, refl, refl)
+
+rest_at : (old t : Ticket) (ts : List Ticket) (a : ℕ) → (t.slot ≡ old.slot → t.number ≢ old.number) → get_elem? (old ∷ ts) a ≡ some t → (b : ℕ) × (get_elem? ts b ≡ some t)
+rest_at old t ts zero other e = let is : old ≡ t = some-injective old t e in absurd (other (sym (ap (λ (z : Ticket). z.slot) is)) (sym (ap (λ (z : Ticket). z.number) is)))
+rest_at old t ts (suc a) other e = (a, e)
 
 module _ {C : Type 0} where
   pub has_set : (ds : List (Doing C)) (id j a : ℕ) (w : Doing C) (t : Ticket) → Has (set ds id w) j a t → ((j ≡ id) × (get_elem? w.tickets a ≡ some t)) ⊎ ((j ≢ id) × Has ds j a t)
@@ -78,6 +82,15 @@ module _ {C : Type 0} where
   has_first ds id j a d w new t at is h = ⊎_elim (λ (e : (j ≡ id) × (get_elem? w.tickets a ≡ some t)). first_at ds id j a d new t at e.0 (subst (λ (l : List Ticket). get_elem? l a ≡ some t) is e.1))
       (λ (e : (j ≢ id) × Has ds j a t). inr (a, e.1, sym (shift_else id suc j a e.0))) (has_set ds id j a w t h)
 
+  -- the tickets that a seat had are behind the first
+  pub has_pushed : (ds : List (Doing C)) (id j a : ℕ) (d w : Doing C) (new t : Ticket) → get_elem? ds id ≡ some d → w.tickets ≡ new ∷ d.tickets → Has ds j a t → (b : ℕ) × Has (set ds id w) j b t
+  has_pushed ds id j a d w new t at is h = dite (ℕ_discrete j id)
+      (λ e. (
+        suc a,
+        subst (λ (i : ℕ). Has (set ds id w) i (suc a) t) (sym e) (has_here ds id (suc a) d w t at (subst (λ (l : List Ticket). get_elem? l (suc a) ≡ some t) (sym is) (has_mine ds id j a d t at e h))),
+      ))
+      (λ ne. (a, has_else ds id j a w t ne h))
+
   pub apart_first : (ds : List (Doing C)) (id : ℕ) (d w : Doing C) (new : Ticket) → get_elem? ds id ≡ some d → w.tickets ≡ new ∷ d.tickets
       → ((j a : ℕ) (t : Ticket) → Has ds j a t → t.slot ≡ new.slot → t.number ≢ new.number) → Apart ds → Apart (set ds id w)
   apart_first ds id d w new at is fresh apart i j a b t u p q s n = ⊎_elim
@@ -97,6 +110,20 @@ module _ {C : Type 0} where
       (a, x.0, has_at ds id j a d x.0 at e.0 (subst (λ (l : List Ticket). get_elem? l a ≡ some x.0) (sym was) x.1), refl, x.2, x.3))
       (λ (e : (j ≢ id) × Has ds j a t). (a, t, e.1, refl, refl, refl)) (has_set ds id j a w t h)
 
+  -- a ticket is held by the seats es as by the seats ds
+  abbrev pub Goes : List (Doing C) → List (Doing C) → ℕ → ℕ → Type 0
+  Goes ds es k m = (j a : ℕ) (t : Ticket) → Has ds j a t → t.slot ≡ k → t.number ≡ m → (b : ℕ) × (u : Ticket) × Has es j b u × (u.slot ≡ t.slot) × (u.number ≡ t.number)
+
+  pub held_on : (ds es : List (Doing C)) (k m : ℕ) → Goes ds es k m → IsHeld ds k m → IsHeld es k m
+  held_on ds es k m go h = let x = go h.0 h.1 h.2 h.3 h.4 h.5 in (h.0, x.0, x.1, x.2, x.3 ∙ h.4, x.4 ∙ h.5)
+
+  pub goes_swapped : (ds : List (Doing C)) (id : ℕ) (d w : Doing C) (old new : Ticket) (ts : List Ticket) (k m : ℕ) → get_elem? ds id ≡ some d → d.tickets ≡ old ∷ ts → w.tickets ≡ new ∷ ts → old.slot ≡ new.slot → old.number ≡ new.number
+      → Goes ds (set ds id w) k m
+  goes_swapped ds id d w old new ts k m at was is s n j a t h e f = dite (ℕ_discrete j id)
+      (λ q. let x = swapped_at new old ts a t (sym s) (sym n) (subst (λ (l : List Ticket). get_elem? l a ≡ some t) was (has_mine ds id j a d t at q h)) in
+      (a, x.0, subst (λ (i : ℕ). Has (set ds id w) i a x.0) (sym q) (has_here ds id a d w x.0 at (subst (λ (l : List Ticket). get_elem? l a ≡ some x.0) (sym is) x.1)), x.2, x.3))
+      (λ ne. (a, t, has_else ds id j a w t ne h, refl, refl))
+
   -- the first ticket is gone
   abbrev pub Behind : List (Doing C) → ℕ → ℕ → ℕ → Ticket → Type 0
   Behind ds id j a t = ((j ≡ id) × Has ds j (suc a) t) ⊎ ((j ≢ id) × Has ds j a t)
@@ -110,6 +137,12 @@ module _ {C : Type 0} where
   follows_behind ds id d w old at was j a t h = ⊎_elim
       (λ (e : (j ≡ id) × Has ds j (suc a) t). (suc a, t, e.1, (let g : a ≡ suc a - 1 = omega arith in g) ∙ sym (shift_here id (λ b. b - 1) j (suc a) e.0), refl, refl))
       (λ (e : (j ≢ id) × Has ds j a t). (a, t, e.1, sym (shift_else id (λ b. b - 1) j a e.0), refl, refl)) (has_behind ds id j a d w old t at was h)
+
+  -- the other tickets stay when the first is gone
+  pub has_left : (ds : List (Doing C)) (id j a : ℕ) (d w : Doing C) (old t : Ticket) → get_elem? ds id ≡ some d → d.tickets ≡ old ∷ w.tickets → (t.slot ≡ old.slot → t.number ≢ old.number) → Has ds j a t → (b : ℕ) × Has (set ds id w) j b t
+  has_left ds id j a d w old t at was other h = dite (ℕ_discrete j id)
+      (λ e. let b = rest_at old t w.tickets a other (subst (λ (l : List Ticket). get_elem? l a ≡ some t) was (has_mine ds id j a d t at e h)) in (b.0, subst (λ (i : ℕ). Has (set ds id w) i b.0 t) (sym e) (has_here ds id b.0 d w t at b.1)))
+      (λ ne. (a, has_else ds id j a w t ne h))
 
   -- a seat with no ticket comes
   pub has_more : (ds : List (Doing C)) (w : Doing C) (j a : ℕ) (t : Ticket) → w.tickets ≡ [] → Has (ds ++ w ∷ []) j a t → Has ds j a t

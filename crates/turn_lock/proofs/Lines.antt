@@ -12,8 +12,8 @@ use Rattle.turn_lock.specs.declared.tickets.Doing.{Doing}
 use Rattle.turn_lock.specs.declared.tickets.Ticket.{Ticket}
 use Rattle.turn_lock.specs.declared.tickets.Stage.{Stage}
 use Rattle.turn_lock.specs.declared.tickets.Stage.TheVariants.{Waiting, Inside}
-use Rattle.turn_lock.specs.Tickets.{waiting, inside, Has, Stands, Sits, IsPlaced, Lined}
-use Rattle.turn_lock.proofs.Entries.{within, has_set, has_here, has_else, has_mine, has_same, has_still, apart_after, has_first, apart_first, shift, follows_swapped, Behind, has_behind, follows_behind, has_more, has_longer}
+use Rattle.turn_lock.specs.Tickets.{waiting, inside, Has, IsHeld, Stands, Sits, IsPlaced, Lined}
+use Rattle.turn_lock.proofs.Entries.{within, has_set, has_here, has_else, has_mine, has_same, has_still, apart_after, has_first, apart_first, has_pushed, has_left, held_on, goes_swapped, shift, follows_swapped, Behind, has_behind, follows_behind, has_more, has_longer}
 
 not_both : (P : Type 0) → Waiting ≡ Inside → P
 not_both P e = absurd (subst (λ (st : Stage). elim st as (λ _. Type 0) [ Waiting ↦ Unit {0} | Inside ↦ ⊥ ]) e tt)
@@ -32,10 +32,6 @@ placed_on ds es k none go p = let x = go p.0 p.1 p.2 p.3 in (p.0, x.0, p.2, x.1)
 placed_on ds es k (some None) go p = p
 placed_on ds es k (some (Some x)) go p = p
 
-rest_first : (k m : ℕ) (ts : List Ticket) (a j o : ℕ) → j ≢ k → get_elem? (inside k m ∷ ts) a ≡ some (inside j o) → (b : ℕ) × (get_elem? ts b ≡ some (inside j o))
-rest_first k m ts zero j o ne e = absurd (ne (sym (ap (λ (t : Ticket). t.slot) (some-injective (inside k m) (inside j o) e))))
-rest_first k m ts (suc a) j o ne e = (a, e)
-
 same_words : (n i : ℕ) (ws : List ℕ) (x k : ℕ) → n + n ≤ i → k < n → (get_or (set ws i x) k 0 ≡ get_or ws k 0) × (get_or (set ws i x) (n + k) 0 ≡ get_or ws (n + k) 0)
 same_words n i ws x k far near = (get_or-set_other ws i k x 0 (λ e. omega arith), get_or-set_other ws i (n + k) x 0 (λ e. omega arith))
 
@@ -46,6 +42,7 @@ module _ {S C : Type 0} (n : ℕ) (ws : List ℕ) (hs : Homes S) (ds : List (Doi
     many = r.many;
     wide = subst (λ (z : ℕ). n + n ≤ z) (sym (length-set ws i x)) r.wide;
     sits = λ j a t h. let s = r.sits j a t h in let e = same_words n i ws x t.slot far s.0 in sits_on n ws (set ws i x) hs hs t (let q = e.0 in omega arith) e.1 (λ o. o) s;
+    held = λ k m near from to. let e = same_words n i ws x k far near in let a = e.0 in let b = e.1 in r.held k m near (omega arith) (omega arith);
     apart = r.apart;
     ordered = λ k near. let e = same_words n i ws x k far near in let o : get_or ws (n + k) 0 ≤ get_or ws k 0 = r.ordered k near in let a = e.0 in let b = e.1 in let g : get_or (set ws i x) (n + k) 0 ≤ get_or (set ws i x) k 0 = omega arith in g;
     placed = r.placed;
@@ -57,6 +54,7 @@ module _ {S C : Type 0} (n : ℕ) (ws : List ℕ) (hs : Homes S) (ds : List (Doi
     many = r.many;
     wide = r.wide;
     sits = λ j a t h. r.sits j a t (has_same ds id j a d w t at same h);
+    held = λ k m near from to. held_on ds (set ds id w) k m (λ j a t h e f. (a, t, has_still ds id j a d w t at same h, refl, refl)) (r.held k m near from to);
     apart = λ i j a b t u p q. r.apart i j a b t u (has_same ds id i a d w t at same p) (has_same ds id j b d w u at same q);
     ordered = r.ordered;
     placed = λ k h e. placed_on ds (set ds id w) k h (λ j a m x. (a, has_still ds id j a d w (inside k m) at same x)) (r.placed k h e);
@@ -68,6 +66,7 @@ module _ {S C : Type 0} (n : ℕ) (ws : List ℕ) (hs : Homes S) (ds : List (Doi
     many = r.many;
     wide = r.wide;
     sits = λ j a t h. r.sits j a t (has_more ds w j a t bare h);
+    held = λ k m near from to. held_on ds (ds ++ w ∷ []) k m (λ j a t h e f. (a, t, has_longer ds w j a t h, refl, refl)) (r.held k m near from to);
     apart = λ i j a b t u p q. r.apart i j a b t u (has_more ds w i a t bare p) (has_more ds w j b u bare q);
     ordered = r.ordered;
     placed = λ k h e. placed_on ds (ds ++ w ∷ []) k h (λ j a m x. (a, has_longer ds w j a (inside k m) x)) (r.placed k h e);
@@ -92,16 +91,17 @@ module _ {S C : Type 0} (n : ℕ) (ws : List ℕ) (hs : Homes S) (ds : List (Doi
             ))
             (λ (x : (b : ℕ) × Has ds j b t × (a ≡ shift id suc j b)). sits_on n ws ws' hs hs t (grown t.slot) (still t.slot) (λ o. o) (r.sits j x.0 t x.1))
             (has_first ds id j a d w (waiting k m) t at is h);
+        held = λ j o l from to.
+            let behind : IsHeld ds j o → IsHeld (set ds id w) j o = held_on ds (set ds id w) j o (λ i a t h e f. let b = has_pushed ds id i a d w (waiting k m) t at is h in (b.0, t, b.1, refl, refl)) in let e = still j in
+            dite (ℕ_discrete j k)
+            (λ q. dite (ℕ_discrete o m)
+            (λ p. (id, 0, waiting k m, has_here ds id 0 d w (waiting k m) at (ap (λ (l : List Ticket). get_elem? l 0) is), sym q, sym p))
+            (λ ne. let now : get_or ws' j 0 ≡ m + 1 = ap (λ (z : ℕ). get_or ws' z 0) q ∙ up in let was : get_or ws j 0 ≡ m = ap (λ (z : ℕ). get_or ws z 0) q ∙ next in behind (r.held j o l (omega arith) (omega arith))))
+            (λ ne. let same = get_or-set_other ws k j (m + 1) 0 ne in behind (r.held j o l (omega arith) (omega arith)));
         apart = apart_first ds id d w (waiting k m) at is
             (λ j a t h s e. let l : t.number < get_or ws t.slot 0 = (r.sits j a t h).1 in let same : get_or ws t.slot 0 ≡ get_or ws k 0 = ap (λ (z : ℕ). get_or ws z 0) s in let e' : t.number ≡ m = e in omega arith) r.apart;
         ordered = λ j l. let o : get_or ws (n + j) 0 ≤ get_or ws j 0 = r.ordered j l in let e = still j in let u = grown j in let g : get_or ws' (n + j) 0 ≤ get_or ws' j 0 = omega arith in g;
-        placed = λ j h e. placed_on ds (set ds id w) j h (λ i a q x. dite (ℕ_discrete i id)
-            (λ e. (
-              suc a,
-              subst (λ (z : ℕ). Has (set ds id w) z (suc a) (inside j q)) (sym e)
-                  (has_here ds id (suc a) d w (inside j q) at (subst (λ (l : List Ticket). get_elem? l (suc a) ≡ some (inside j q)) (sym is) (has_mine ds id i a d (inside j q) at e x))),
-            ))
-            (λ ne. (a, has_else ds id i a w (inside j q) ne x))) (r.placed j h e);
+        placed = λ j h e. placed_on ds (set ds id w) j h (λ i a q x. has_pushed ds id i a d w (waiting k m) (inside j q) at is x) (r.placed j h e);
       }
 
   -- the value is at home where a waiting ticket is the one that is served
@@ -148,6 +148,7 @@ module _ {S C : Type 0} (n : ℕ) (ws : List ℕ) (hs : Homes S) (ds : List (Doi
         sits = λ j a t h. ⊎_elim
             (λ (e : (j ≡ id) × (get_elem? w.tickets a ≡ some t)). served_sits id k m d ts x at was now home a t (subst (λ (l : List Ticket). get_elem? l a ≡ some t) is e.1))
             (λ (e : (j ≢ id) × Has ds j a t). sits_on n ws ws hs (set hs k none) t (omega arith) refl (stays_out k (Some x) t.slot home) (r.sits j a t e.1)) (has_set ds id j a w t h);
+        held = λ j o l from to. held_on ds (set ds id w) j o (goes_swapped ds id d w (waiting k m) (inside k m) ts j o at was is refl refl) (r.held j o l from to);
         apart = apart_after ds (set ds id w) (λ _ b. b) follows r.apart;
         ordered = r.ordered;
         placed = λ j h e. ⊎_elim
@@ -194,14 +195,17 @@ module _ {S C : Type 0} (n : ℕ) (ws : List ℕ) (hs : Homes S) (ds : List (Doi
                   (passed_stands k m ws' hs' t.number t.stage now up (later id k m d w j a t at was behind e) (subst (λ (z : ℕ). Stands n ws hs z t.number t.stage) e s.2)),
             ))
             (λ ne. sits_on n ws ws' hs hs' t (let g : get_or ws t.slot 0 ≤ get_or ws' t.slot 0 = omega arith in g) (still t.slot ne) (λ o. set_else hs k t.slot (some (Some y)) ne ∙ o) s);
+        held = λ j o l from to.
+            let same = kept j l in
+            let behind : ((j ≡ k) → o ≢ m) → IsHeld ds j o → IsHeld (set ds id w) j o = λ ne. held_on ds (set ds id w) j o (λ i a t h e f. let b = has_left ds id i a d w (inside k m) t at was (λ p q. ne (sym e ∙ p) (sym f ∙ q)) h in (b.0, t, b.1, refl, refl)) in
+            dite (ℕ_discrete j k)
+            (λ q. let new : get_or ws' (n + j) 0 ≡ m + 1 = ap (λ (z : ℕ). get_or ws' (n + z) 0) q ∙ up in let old : get_or ws (n + j) 0 ≡ m = ap (λ (z : ℕ). get_or ws (n + z) 0) q ∙ now in behind (λ _ p. omega arith) (r.held j o l (omega arith) (omega arith)))
+            (λ ne. let e = still j ne in behind (λ p. absurd (ne p)) (r.held j o l (omega arith) (omega arith)));
         apart = apart_after ds (set ds id w) (shift id (λ b. b - 1)) (follows_behind ds id d w (inside k m) at was) r.apart;
         ordered = λ j l. let same = kept j l in dite (ℕ_discrete j k)
             (λ e. subst (λ (z : ℕ). get_or ws' (n + z) 0 ≤ get_or ws' z 0) (sym e) (let same' = kept k near in let g : get_or ws' (n + k) 0 ≤ get_or ws' k 0 = omega arith in g))
             (λ ne. let e = still j ne in let o : get_or ws (n + j) 0 ≤ get_or ws j 0 = r.ordered j l in let g : get_or ws' (n + j) 0 ≤ get_or ws' j 0 = omega arith in g);
         placed = λ j h e. ⊎_elim
             (λ (q : (j ≡ k) × (some (Some y) ≡ h)). subst (λ (z : maybe.Option (Option S)). IsPlaced (set ds id w) j z) q.1 tt)
-            (λ (q : (j ≢ k) × (get_elem? hs j ≡ some h)). placed_on ds (set ds id w) j h (λ i a o x. dite (ℕ_discrete i id)
-            (λ e'. let b = rest_first k m w.tickets a j o q.0 (subst (λ (l : List Ticket). get_elem? l a ≡ some (inside j o)) was (has_mine ds id i a d (inside j o) at e' x)) in
-            (b.0, subst (λ (z : ℕ). Has (set ds id w) z b.0 (inside j o)) (sym e') (has_here ds id b.0 d w (inside j o) at b.1)))
-            (λ ne. (a, has_else ds id i a w (inside j o) ne x))) (r.placed j h q.1)) (at_set hs k j (some (Some y)) h e);
+            (λ (q : (j ≢ k) × (get_elem? hs j ≡ some h)). placed_on ds (set ds id w) j h (λ i a o x. has_left ds id i a d w (inside k m) (inside j o) at was (λ p. absurd (q.0 p)) x) (r.placed j h q.1)) (at_set hs k j (some (Some y)) h e);
       }

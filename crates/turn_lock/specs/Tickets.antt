@@ -51,10 +51,16 @@ IsPlaced ds k (some (Some x)) = Unit {0}
 abbrev pub Apart : {C : Type 0} → List (Doing C) → Type 0
 Apart ds = (i j a b : ℕ) (t u : Ticket) → Has ds i a t → Has ds j b u → t.slot ≡ u.slot → t.number ≡ u.number → (i ≡ j) × (a ≡ b)
 
+-- the ticket m of the slot k is with a seat
+abbrev pub IsHeld : {C : Type 0} → List (Doing C) → ℕ → ℕ → Type 0
+IsHeld ds k m = (j : ℕ) × (a : ℕ) × (t : Ticket) × Has ds j a t × (t.slot ≡ k) × (t.number ≡ m)
+
+-- each ticket from the one that is served to the newest is with a seat, in one place, and there are no others
 pub record Lined {S C : Type 0} (n : ℕ) (ws : List ℕ) (hs : Homes S) (ds : List (Doing C)) : Type 0 where
   pub many : length hs ≡ n
   pub wide : n + n ≤ length ws
   pub sits : (j a : ℕ) (t : Ticket) → Has ds j a t → Sits n ws hs t
+  pub held : (k m : ℕ) → k < n → served n ws hs k ≤ m → m < taken n ws hs k → IsHeld ds k m
   pub apart : Apart ds
   pub ordered : (k : ℕ) → k < n → served n ws hs k ≤ taken n ws hs k
   pub placed : (k : ℕ) (h : maybe.Option (Option S)) → get_elem? hs k ≡ some h → IsPlaced ds k h

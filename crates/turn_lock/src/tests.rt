@@ -84,8 +84,8 @@ fn take_both<R: Threads + Wait + Sync>(
 {
     thread::join(
         rt,
-        move || take_turns(rt, lock, &mut one, 0, 100),
-        move || take_turns(rt, lock, &mut two, 0, 100),
+        move || take_turns(rt, lock, &mut one, 0, 10_000),
+        move || take_turns(rt, lock, &mut two, 0, 10_000),
     );
 }
 
@@ -110,6 +110,7 @@ fn a_seat_goes_through_two_slots(rt: HostRuntime) -> Result<(), Fail> {
     Ok(())
 }
 
+// The threads race for tickets. A loser that didn't look again would spin forever, and no clause says that a call returns: the test would not end.
 #[test]
 fn two_threads_lose_no_turn(rt: HostRuntime) -> Result<(), Fail> {
     let mut values = Vec::new(rt.alloc());
@@ -124,7 +125,7 @@ fn two_threads_lose_no_turn(rt: HostRuntime) -> Result<(), Fail> {
     let turn = lock.enter_as::<Free, HostRuntime>(&rt, &mut pass, 0);
     let total = turn.value;
     lock.leave_as::<Free>(&mut pass, turn);
-    assert!(rt; total == 200);
+    assert!(rt; total == 20_000);
     Ok(())
 }
 

@@ -6,7 +6,7 @@ use Rattle.turn_lock.specs.Client.{Moves, MovesOut, Gives, Forks, Merges, AllHom
 use Rattle.turn_lock.specs.Passes.{Pass, IsStill}
 use Rattle.turn_lock.specs.declared.tickets.Ticket.{Ticket}
 use Rattle.turn_facts.specs.Counts.{count, Among}
-use Rattle.turn_facts.specs.Notes.{Adds}
+use Rattle.turn_facts.specs.Notes.{of, times, Adds}
 use Rattle.turn_facts.specs.Prefixes.{IsAt}
 use Rattle.turn_facts.proofs.Counts.{count-here}
 use Rattle.turn_facts.proofs.Notes.{adds_starts}
@@ -17,8 +17,8 @@ use Rattle.turn_table.specs.declared.turns.Turn.{Turn}
 use Rattle.turn_table.specs.Knowledge.{at_slot, numbers, weight, part, counted, left, numbered, offered, stayed, given, joined, settled, spent}
 use Rattle.turn_table.specs.Rule.{Kept, Grew, clock}
 use Rattle.turn_table.specs.Seats.{SeatView, known, seat_view, IsSeat, IsGiven, fresh, part_of}
-use Rattle.turn_table.specs.Tells.{Drew, Numbers, Settled, Ends}
-use Rattle.turn_table.proofs.Ending.{ends_home, ends}
+use Rattle.turn_table.specs.Tells.{Drew, Numbers, Settled}
+use Rattle.turn_table.proofs.Ending.{Ends, ends_home, ends}
 use Rattle.turn_table.proofs.Sharing.{length-longer_each}
 use Rattle.turn_table.proofs.Steps.{counts, leaves, draws, gets_number, splits, joins}
 
@@ -116,8 +116,28 @@ module _ {S N B : Type 0} (journal : S → List N) (base : S → B) (number : N 
   pub closes_call : (p : Pass S (Know N B)) (s : SeatView N B) (n : ℕ) → seat_view p ≡ s → IsSeat p n → s.turns ≡ [] → s.allowance + (length s.drawn + length s.joined) ≡ 2 ^ 40 → AllHome (Kept journal base number time) p.id (known p)
   closes_call p s n e i rest all = ends_home journal base number time p.id (known p) (has_all p s n e i all) (inside_is p s n [] e i rest)
 
-  pub closed : (p : Pass S (Know N B)) (s : SeatView N B) (n : ℕ) (ws : List ℕ) (xs : List S) → seat_view p ≡ s → IsSeat p n → s.allowance + (length s.drawn + length s.joined) ≡ 2 ^ 40 → Ended (Kept journal base number time) p.id (known p) ws xs
-      → (map journal xs ≡ s.seen) × (map base xs ≡ s.table.bases) × (s.table.first ≤ clock ws) × ((x : ℕ) → Among x s.drawn → x < clock ws) × (clock ws ≤ 2 ^ 40 + max s.table.first (2 ^ 63))
-  closed p s n ws xs e i all end =
-      let d : Ends journal base (known p) ws xs = ends journal base number time p.id (known p) ws xs i.live (has_all p s n e i all) end in
-      subst (λ (x : SeatView N B). (map journal xs ≡ x.seen) × (map base xs ≡ x.table.bases) × (x.table.first ≤ clock ws) × ((y : ℕ) → Among y x.drawn → y < clock ws) × (clock ws ≤ 2 ^ 40 + max x.table.first (2 ^ 63))) e (d.journals, d.bases, d.first, d.drawn, d.most)
+  -- what `close` tells of the seat s that ends a table, and of the values xs and the number c that it gives
+  pub record Closed (s : SeatView N B) (c : ℕ) (xs : List S) : Type 0 where
+    pub journals : map journal xs ≡ s.seen
+    pub bases : map base xs ≡ s.table.bases
+    pub first : s.table.first ≤ c
+    pub whose : (k n : ℕ) → count n (s.number ∷ s.joined) ≡ 0 → of number n (at_slot s.seen k) ≡ of number n (at_slot s.origin k)
+    pub since : (x : ℕ) → Among x s.drawn → s.table.first ≤ x
+    pub drawn : (x : ℕ) → Among x s.drawn → x < c
+    pub times : (k x : ℕ) → Among x (times time (at_slot s.seen k)) → x < c
+    pub most : c ≤ 2 ^ 40 + max s.table.first (2 ^ 63)
+
+  pub closed : (p : Pass S (Know N B)) (s : SeatView N B) (n c : ℕ) (ws : List ℕ) (xs : List S) → seat_view p ≡ s → IsSeat p n → s.allowance + (length s.drawn + length s.joined) ≡ 2 ^ 40 → Ended (Kept journal base number time) p.id (known p) ws xs → c ≡ clock ws
+      → Closed s c xs
+  closed p s n c ws xs e i all end is =
+      let d : Ends journal base number time (known p) ws xs = ends journal base number time p.id (known p) ws xs i.live (has_all p s n e i all) end in
+      subst (λ (z : SeatView N B × ℕ). Closed z.0 z.1 xs) (λ j. (e j, sym is j)) record {
+        journals = d.journals;
+        bases = d.bases;
+        first = d.first;
+        whose = λ k m z. d.whose k m (ap (count m) (numbers_are p n i) ∙ z);
+        since = d.since;
+        drawn = d.drawn;
+        times = d.times;
+        most = d.most;
+      }

@@ -18,6 +18,7 @@ module _ {N B : Type 0} (time : N → Option ℕ) where
       let equal : (n : ℕ) → total (λ (u : Know N B). count n u.drawn) (set vs id w) ≡ total (λ (u : Know N B). count n u.drawn) vs = λ n. let f : Know N B → ℕ = λ u. count n u.drawn in let a : total f (set vs id w) + f v ≡ total f vs + f w = total_set f vs id v w e in let b : count n w.drawn ≡ count n v.drawn = r n in omega arith in
       record {
         once = λ n. let P : ℕ → Type 0 = λ y. y ≤ 1 in subst P (sym (equal n)) (s.once n);
+        early = λ n h. equal n ∙ s.early n h;
         below = λ n h. equal n ∙ s.below n (omega arith);
         least = each_set (λ (u : Know N B). u.least ≤ clock ws') vs id w (λ j u at. let a : u.least ≤ clock ws = s.least j u at in omega arith) least;
         first = let a : t.first ≤ clock ws = s.first in omega arith;
@@ -28,6 +29,7 @@ module _ {N B : Type 0} (time : N → Option ℕ) where
   pub drawn_counts : {t : Truth N B} {ws : List ℕ} {vs : List (Know N B)} (id : ℕ) (v : Know N B) (k : ℕ) (l : List N) → Drawn time t ws vs → IsAt vs id v → ((x : ℕ) → Among x (times time l) → (Among x (times time (t.journals k))) ⊎ (Among x v.drawn)) → Drawn time (grown_truth t k l) ws vs
   drawn_counts {t} {ws} {vs} id v k l s e new = record {
     once = s.once;
+    early = s.early;
     below = s.below;
     least = s.least;
     first = s.first;
@@ -47,6 +49,7 @@ module _ {N B : Type 0} (time : N → Option ℕ) where
       record {
         once = λ n. ⊎_elim (λ (p : x ≡ n). let Q : ℕ → Type 0 = λ m. total (λ (u : Know N B). count m u.drawn) (set vs id w) ≤ 1 in subst Q p (let f : Know N B → ℕ = λ u. count x u.drawn in let a : total f (set vs id w) + f v ≡ total f vs + f w = total_set f vs id v w e in let z : total f vs ≡ 0 = s.below x (omega arith) in omega arith))
             (λ (p : x ≢ n). let o : total (λ (u : Know N B). count n u.drawn) vs ≤ 1 = s.once n in let q : total (λ (u : Know N B). count n u.drawn) (set vs id w) ≡ total (λ (u : Know N B). count n u.drawn) vs = equal n p in omega arith) (same_or x n);
+        early = λ n h. let a : t.first ≤ x = s.first in equal n (λ p. omega arith) ∙ s.early n h;
         below = λ n h. equal n (λ p. omega arith) ∙ s.below n (omega arith);
         least = each_set (λ (u : Know N B). u.least ≤ clock ws') vs id w (λ j u at. let a : u.least ≤ x = s.least j u at in omega arith) (let a : v.least ≤ x = s.least id v e in omega arith);
         first = let a : t.first ≤ x = s.first in omega arith;
@@ -58,6 +61,7 @@ module _ {N B : Type 0} (time : N → Option ℕ) where
       let equal : (n : ℕ) → total (λ (u : Know N B). count n u.drawn) (set vs id (stayed v) ++ given v ∷ []) ≡ total (λ (u : Know N B). count n u.drawn) vs = λ n. let z : count n [] ≡ 0 = count-nil n in total_cut (λ (u : Know N B). count n u.drawn) vs id v (stayed v) (given v) e (omega arith) in
       record {
         once = λ n. let P : ℕ → Type 0 = λ y. y ≤ 1 in subst P (sym (equal n)) (s.once n);
+        early = λ n h. equal n ∙ s.early n h;
         below = λ n h. equal n ∙ s.below n h;
         least = each_more (λ (u : Know N B). u.least ≤ clock ws) (set vs id (stayed v)) (given v) (each_set (λ (u : Know N B). u.least ≤ clock ws) vs id (stayed v) s.least (s.least id v e)) (s.least id v e);
         first = s.first;
@@ -70,6 +74,7 @@ module _ {N B : Type 0} (time : N → Option ℕ) where
       let equal : (n : ℕ) → total (λ (u : Know N B). count n u.drawn) (set (set vs id (joined v w)) other spent) ≡ total (λ (u : Know N B). count n u.drawn) vs = λ n. let z : count n [] ≡ 0 = count-nil n in let a : count n (v.drawn ++ w.drawn) ≡ count n v.drawn + count n w.drawn = count-append n v.drawn w.drawn in total_pair (λ (u : Know N B). count n u.drawn) vs id other v w (joined v w) spent e e' (omega arith) in
       record {
         once = λ n. let P : ℕ → Type 0 = λ y. y ≤ 1 in subst P (sym (equal n)) (s.once n);
+        early = λ n h. equal n ∙ s.early n h;
         below = λ n h. equal n ∙ s.below n h;
         least = each_set (λ (u : Know N B). u.least ≤ clock ws) (set vs id (joined v w)) other spent (each_set (λ (u : Know N B). u.least ≤ clock ws) vs id (joined v w) s.least (let a : v.least ≤ clock ws = s.least id v e in let b : w.least ≤ clock ws = s.least other w e_w in omega arith)) (omega arith);
         first = s.first;

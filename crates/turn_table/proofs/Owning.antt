@@ -1,5 +1,5 @@
 -- Whose notes they are, at each step.
-use Rattle.std.proofs.Common.{◌≡◌, ℕ, zero, suc, ◌+◌, ◌<◌, ◌≤◌, ◌≢◌, Bool, true, cond, List, [], ◌∷◌, ◌++◌, length, get_or, set, drop, ap, sym, ◌∙◌, subst, ⊎_elim, arith, get_or-set_same, get_or-set_other, true≢false}
+use Rattle.std.proofs.Common.{◌≡◌, ℕ, zero, suc, ◌+◌, ◌<◌, ◌≤◌, ◌≢◌, Bool, true, false, cond, eqb, refl, List, [], ◌∷◌, ◌++◌, length, get_or, set, drop, ap, sym, ◌∙◌, subst, ⊎_elim, arith, get_or-set_same, get_or-set_other, true≢false}
 use Rattle.std.proofs.lemmas.Bool.{cases_lt}
 use mathlib.Core.Option.{some-injective, some-ne-none}
 use Rattle.turn_facts.specs.Counts.{count, Among, total}
@@ -11,11 +11,11 @@ use Rattle.turn_facts.proofs.Places.{same_or, at_else, each_set, each_more, each
 use Rattle.turn_facts.proofs.Prefixes.{longer_begins, longer_left, longer_right}
 use Rattle.turn_facts.proofs.Totals.{total_set, total_two, total_least, total_cut, total_pair}
 use Rattle.turn_table.specs.declared.knows.Know.{Know}
-use Rattle.turn_table.specs.Knowledge.{at_slot, own, numbers, part, counted, numbered, stayed, given, joined, spent}
+use Rattle.turn_table.specs.Knowledge.{at_slot, own, numbers, weight, part, counted, numbered, stayed, given, joined, spent}
 use Rattle.turn_table.specs.Rule.{Truth, SeesAll, Owns, OwnsAll, Numbered, Grew, IsGrown, next_seat, grown_truth}
 use Rattle.turn_table.proofs.Sharing.{at-longer_each}
 
-count_three : (n : ℕ) (a b c : List ℕ) → count n (a ++ (b ++ c)) ≡ count n a + (count n b + count n c)
+pub count_three : (n : ℕ) (a b c : List ℕ) → count n (a ++ (b ++ c)) ≡ count n a + (count n b + count n c)
 count_three n a b c = let p : count n (a ++ (b ++ c)) ≡ count n a + count n (b ++ c) = count-append n a (b ++ c) in let q : count n (b ++ c) ≡ count n b + count n c = count-append n b c in omega arith
 
 each_of_two : {A : Type 0} (P : A → Type 0) (a b : A) → P a → P b → (i : ℕ) (c : A) → IsAt (a ∷ b ∷ []) i c → P c
@@ -23,14 +23,67 @@ each_of_two P a b p q zero c e = subst P (some-injective a c e) p
 each_of_two P a b p q (suc zero) c e = subst P (some-injective b c e) q
 each_of_two P a b p q (suc (suc i)) c e = absurd (some-ne-none c (sym e))
 
+one_or_none : (b : Bool) → cond {A = ℕ} b 1 0 ≤ 1
+one_or_none true = omega arith
+one_or_none false = omega arith
+
+count_le : (n : ℕ) (l : List ℕ) → count n l ≤ length l
+unfolding count
+count_le n [] = omega arith
+count_le n (x ∷ l) = let h : count n l ≤ length l = count_le n l in let c : cond {A = ℕ} (eqb x n) 1 0 ≤ 1 = one_or_none (eqb x n) in omega arith
+
+own_length : (b : Bool) (x : ℕ) → length (cond b (x ∷ []) []) ≡ cond {A = ℕ} b 1 0
+own_length true x = refl
+own_length false x = refl
+
+module _ {N B : Type 0} where
+  -- a seat without weight has no number
+  pub weightless : (n : ℕ) (u : Know N B) → weight u ≡ 0 → count n (numbers u) ≡ 0
+  weightless n u z =
+      let a : count n (numbers u) ≡ count n (own u) + (count n u.spare + count n u.joined) = count_three n (own u) u.spare u.joined in
+      let b : count n (own u) ≤ length (own u) = count_le n (own u) in
+      let c : length (own u) ≡ cond {A = ℕ} u.live 1 0 = own_length u.live u.number in
+      let d : count n u.spare ≤ length u.spare = count_le n u.spare in
+      let e : count n u.joined ≤ length u.joined = count_le n u.joined in
+      omega arith
+
+  pub count-split : (n : ℕ) (v : Know N B) → v.live ≡ true → v.spare ≡ get_or v.spare 0 0 ∷ drop 1 v.spare → count n (numbers (stayed v)) + count n (numbers (given v)) ≡ count n (numbers v)
+  count-split n v live sp =
+      let x : ℕ = get_or v.spare 0 0 in
+      let a : count n (numbers (stayed v)) ≡ count n (own v) + (count n (drop 1 v.spare) + count n v.joined) = count_three n (own v) (drop 1 v.spare) v.joined in
+      let b : count n (numbers v) ≡ count n (own v) + (count n v.spare + count n v.joined) = count_three n (own v) v.spare v.joined in
+      let d : count n v.spare ≡ count n (x ∷ drop 1 v.spare) = ap (count n) sp in
+      let own_is : own (given v) ≡ x ∷ [] = ap (λ (b : Bool). cond b (x ∷ []) []) live in
+      let c : count n (numbers (given v)) ≡ count n (own (given v)) + (count n [] + count n []) = count_three n (own (given v)) [] [] in
+      let z : count n [] ≡ 0 = count-nil n in
+      let f : count n (own (given v)) ≡ count n (x ∷ []) = ap (count n) own_is in
+      let o : count n (x ∷ drop 1 v.spare) ≡ count n (x ∷ []) + count n (drop 1 v.spare) = count-append n (x ∷ []) (drop 1 v.spare) in
+      omega arith
+
+  -- a seat takes in what another has
+  pub count-joined : (n : ℕ) (v w : Know N B) → count n (numbers (joined v w)) ≡ count n (numbers v) + count n (numbers w)
+  count-joined n v w =
+      let a : count n (numbers (joined v w)) ≡ count n (own v) + (count n (v.spare ++ w.spare) + count n (v.joined ++ (own w ++ w.joined))) = count_three n (own v) (v.spare ++ w.spare) (v.joined ++ (own w ++ w.joined)) in
+      let b : count n (v.spare ++ w.spare) ≡ count n v.spare + count n w.spare = count-append n v.spare w.spare in
+      let c : count n (v.joined ++ (own w ++ w.joined)) ≡ count n v.joined + (count n (own w) + count n w.joined) = count_three n v.joined (own w) w.joined in
+      let d : count n (numbers v) ≡ count n (own v) + (count n v.spare + count n v.joined) = count_three n (own v) v.spare v.joined in
+      let f : count n (numbers w) ≡ count n (own w) + (count n w.spare + count n w.joined) = count_three n (own w) w.spare w.joined in
+      omega arith
+
 module _ {N B : Type 0} (number : N → ℕ) where
+  -- no number is at two seats, nor twice at one
+  pub numbered_once : {t : Truth N B} {ws : List ℕ} {vs : List (Know N B)} → Numbered number t ws vs → (n : ℕ) → total (λ (u : Know N B). count n (numbers u)) vs ≤ 1
+  numbered_once {t} {ws} {vs} s n = ⊎_elim (λ (h : n < next_seat ws). let a : total (λ (u : Know N B). count n (numbers u)) vs ≡ 1 = s.given n h in omega arith)
+      (λ (h : next_seat ws ≤ n). let a : total (λ (u : Know N B). count n (numbers u)) vs ≡ 0 = s.unused n h in omega arith) (cases_lt n (next_seat ws))
+
   pub numbered_kept : {t : Truth N B} {ws : List ℕ} {vs : List (Know N B)} (ws' : List ℕ) (id : ℕ) (v w : Know N B) → Numbered number t ws vs → IsAt vs id v → next_seat ws' ≡ next_seat ws
       → (OwnsAll number t (next_seat ws) v → OwnsAll number t (next_seat ws) w) → ((n : ℕ) → count n (numbers w) ≡ count n (numbers v)) → Numbered number t ws' (set vs id w)
   numbered_kept {t} {ws} {vs} ws' id v w s e next p r =
       let same : (n : ℕ) → total (λ (u : Know N B). count n (numbers u)) (set vs id w) ≡ total (λ (u : Know N B). count n (numbers u)) vs = λ n. let f : Know N B → ℕ = λ u. count n (numbers u) in let a : total f (set vs id w) + f v ≡ total f vs + f w = total_set f vs id v w e in let b : f w ≡ f v = r n in omega arith in
       record {
-        once = λ n. let P : ℕ → Type 0 = λ x. x ≤ 1 in subst P (sym (same n)) (s.once n);
+        given = λ n h. same n ∙ s.given n (omega arith);
         unused = λ n h. same n ∙ s.unused n (omega arith);
+        strange = λ k n h. s.strange k n (omega arith);
         views = let P : ℕ → Type 0 = λ m. (j : ℕ) (u : Know N B) → IsAt (set vs id w) j u → OwnsAll number t m u in subst P (sym next) (each_set (OwnsAll number t (next_seat ws)) vs id w s.views (p (s.views id v e)));
       }
 
@@ -56,7 +109,7 @@ module _ {N B : Type 0} (number : N → ℕ) where
       let grows : (i m : ℕ) (x : List N) → v.number ≢ m → of number m (t.journals i) ≡ of number m x → of number m (t'.journals i) ≡ of number m x = λ i m x ne p.
       ⊎_elim (λ (q : i ≡ k). let P : ℕ → Type 0 = λ a. of number m (t.journals a) ≡ of number m x in ap (λ (a : ℕ). of number m (t'.journals a)) q ∙ ap (of number m) now ∙ others m ne ∙ subst P q p) (λ (q : i ≢ k). ap (of number m) (same i q) ∙ p) (same_or i k) in
       let unlike : (n : ℕ) → next_seat ws ≤ n → v.number ≢ n = λ n h p. let f : Know N B → ℕ = λ u. count n (numbers u) in let z : total f vs ≡ 0 = s.unused n h in let y : f v ≤ total f vs = total_least f vs id v e in let x : 1 ≤ count n (numbers v) = mine n p in omega arith in
-      let apart : (j : ℕ) (u : Know N B) (n : ℕ) → j ≢ id → IsAt vs j u → Among n (numbers u) → v.number ≢ n = λ j u n ne at a p. let f : Know N B → ℕ = λ y. count n (numbers y) in let two : f u + f v ≤ total f vs = total_two f vs j id u v at e ne in let o : total f vs ≤ 1 = s.once n in let x : 1 ≤ count n (numbers v) = mine n p in omega arith in
+      let apart : (j : ℕ) (u : Know N B) (n : ℕ) → j ≢ id → IsAt vs j u → Among n (numbers u) → v.number ≢ n = λ j u n ne at a p. let f : Know N B → ℕ = λ y. count n (numbers y) in let two : f u + f v ≤ total f vs = total_two f vs j id u v at e ne in let o : total f vs ≤ 1 = numbered_once s n in let x : 1 ≤ count n (numbers v) = mine n p in omega arith in
       let rest : (j : ℕ) (u : Know N B) → j ≢ id → IsAt vs j u → OwnsAll number t' (next_seat ws) u = λ j u ne at. let o : OwnsAll number t (next_seat ws) u = s.views j u at in record {
         mine = λ i n a. grows i n (at_slot u.seen i) (apart j u n ne at a) (o.mine i n a);
         fresh = λ li i n h. grows i n (at_slot u.seen i) (unlike n h) (o.fresh li i n h);
@@ -67,8 +120,9 @@ module _ {N B : Type 0} (number : N → ℕ) where
       let ow : OwnsAll number t' (next_seat ws) w = record { mine = λ i n a. one i n (ov.mine i n a); fresh = λ li i n h. one i n (ov.fresh li i n h) } in
       let equal : (n : ℕ) → total (λ (u : Know N B). count n (numbers u)) (set vs id w) ≡ total (λ (u : Know N B). count n (numbers u)) vs = λ n. let f : Know N B → ℕ = λ u. count n (numbers u) in let a : total f (set vs id w) + f v ≡ total f vs + f w = total_set f vs id v w e in omega arith in
       record {
-        once = λ n. let P : ℕ → Type 0 = λ x. x ≤ 1 in subst P (sym (equal n)) (s.once n);
+        given = λ n h. equal n ∙ s.given n (omega arith);
         unused = λ n h. equal n ∙ s.unused n (omega arith);
+        strange = λ i n h. let h' : next_seat ws ≤ n = omega arith in grows i n (at_slot t.origin i) (unlike n h') (s.strange i n h');
         views = let P : ℕ → Type 0 = λ m. (j : ℕ) (u : Know N B) → IsAt (set vs id w) j u → OwnsAll number t' m u in subst P (sym next) (each_set_else (OwnsAll number t' (next_seat ws)) vs id w rest ow);
       }
 
@@ -83,9 +137,10 @@ module _ {N B : Type 0} (number : N → ℕ) where
       let ov : OwnsAll number t x v = s.views id v e in
       let P : ℕ → Type 0 = λ m. (j : ℕ) (u : Know N B) → IsAt (set vs id w) j u → OwnsAll number t m u in
       record {
-        once = λ n. ⊎_elim (λ (p : x ≡ n). let Q : ℕ → Type 0 = λ m. total (λ (u : Know N B). count m (numbers u)) (set vs id w) ≤ 1 in subst Q p (let f : Know N B → ℕ = λ u. count x (numbers u) in let a : total f (set vs id w) + f v ≡ total f vs + f w = total_set f vs id v w e in let z : total f vs ≡ 0 = s.unused x (omega arith) in let b : count x (numbers w) ≡ 1 + count x (numbers v) = more_here in omega arith))
-            (λ (p : x ≢ n). let o : total (λ (u : Know N B). count n (numbers u)) vs ≤ 1 = s.once n in let q : total (λ (u : Know N B). count n (numbers u)) (set vs id w) ≡ total (λ (u : Know N B). count n (numbers u)) vs = equal n p in omega arith) (same_or x n);
+        given = λ n h. ⊎_elim (λ (p : x ≡ n). let Q : ℕ → Type 0 = λ m. total (λ (u : Know N B). count m (numbers u)) (set vs id w) ≡ 1 in subst Q p (let f : Know N B → ℕ = λ u. count x (numbers u) in let a : total f (set vs id w) + f v ≡ total f vs + f w = total_set f vs id v w e in let z : total f vs ≡ 0 = s.unused x (omega arith) in let b : f w ≡ 1 + f v = more_here in omega arith))
+            (λ (p : x ≢ n). equal n p ∙ s.given n (omega arith)) (same_or x n);
         unused = λ n h. equal n (λ p. omega arith) ∙ s.unused n (omega arith);
+        strange = λ k n h. s.strange k n (omega arith);
         views = subst P (sym next) (each_set (OwnsAll number t (x + 1)) vs id w
             (λ j u at. let o : OwnsAll number t x u = s.views j u at in record { mine = o.mine; fresh = λ li i n h. o.fresh li i n (omega arith) })
             record {
@@ -97,31 +152,17 @@ module _ {N B : Type 0} (number : N → ℕ) where
   -- a seat is split off, with a number that the seat had to give away
   pub numbered_splits : {t : Truth N B} {ws : List ℕ} {vs : List (Know N B)} (id : ℕ) (v : Know N B) → Numbered number t ws vs → IsAt vs id v → v.live ≡ true → v.spare ≡ get_or v.spare 0 0 ∷ drop 1 v.spare → Numbered number t ws (set vs id (stayed v) ++ given v ∷ [])
   numbered_splits {t} {ws} {vs} id v s e live sp =
-      let x : ℕ = get_or v.spare 0 0 in
-      let a : (n : ℕ) → count n (numbers (stayed v)) ≡ count n (own v) + (count n (drop 1 v.spare) + count n v.joined) = λ n. count_three n (own v) (drop 1 v.spare) v.joined in
-      let b : (n : ℕ) → count n (numbers v) ≡ count n (own v) + (count n (x ∷ drop 1 v.spare) + count n v.joined) = λ n. let c : count n (numbers v) ≡ count n (own v) + (count n v.spare + count n v.joined) = count_three n (own v) v.spare v.joined in let d : count n v.spare ≡ count n (x ∷ drop 1 v.spare) = ap (count n) sp in omega arith in
-      let g : (n : ℕ) → count n (numbers (given v)) ≡ count n (x ∷ []) = λ n. let own_is : own (given v) ≡ x ∷ [] = ap (λ (b : Bool). cond b (x ∷ []) []) live in let c : count n (numbers (given v)) ≡ count n (own (given v)) + (count n [] + count n []) = count_three n (own (given v)) [] [] in let z : count n [] ≡ 0 = count-nil n in let d : count n (own (given v)) ≡ count n (x ∷ []) = ap (count n) own_is in omega arith in
-      let one : (n : ℕ) → count n (x ∷ drop 1 v.spare) ≡ count n (x ∷ []) + count n (drop 1 v.spare) = λ n. count-append n (x ∷ []) (drop 1 v.spare) in
-      let sum : (n : ℕ) → count n (numbers (stayed v)) + count n (numbers (given v)) ≡ count n (numbers v) = λ n. let p : count n (numbers (stayed v)) ≡ count n (own v) + (count n (drop 1 v.spare) + count n v.joined) = a n in let q : count n (numbers v) ≡ count n (own v) + (count n (x ∷ drop 1 v.spare) + count n v.joined) = b n in let r : count n (numbers (given v)) ≡ count n (x ∷ []) = g n in let o : count n (x ∷ drop 1 v.spare) ≡ count n (x ∷ []) + count n (drop 1 v.spare) = one n in omega arith in
+      let sum : (n : ℕ) → count n (numbers (stayed v)) + count n (numbers (given v)) ≡ count n (numbers v) = λ n. count-split n v live sp in
       let equal : (n : ℕ) → total (λ (u : Know N B). count n (numbers u)) (set vs id (stayed v) ++ given v ∷ []) ≡ total (λ (u : Know N B). count n (numbers u)) vs = λ n. total_cut (λ (u : Know N B). count n (numbers u)) vs id v (stayed v) (given v) e (sum n) in
       let ov : OwnsAll number t (next_seat ws) v = s.views id v e in
       record {
-        once = λ n. let P : ℕ → Type 0 = λ y. y ≤ 1 in subst P (sym (equal n)) (s.once n);
+        given = λ n h. equal n ∙ s.given n h;
         unused = λ n h. equal n ∙ s.unused n h;
+        strange = s.strange;
         views = each_more (OwnsAll number t (next_seat ws)) (set vs id (stayed v)) (given v) (each_set (OwnsAll number t (next_seat ws)) vs id (stayed v) s.views
             record { mine = λ i n m. let q : count n (numbers (stayed v)) + count n (numbers (given v)) ≡ count n (numbers v) = sum n in ov.mine i n (omega arith); fresh = ov.fresh })
             record { mine = λ i n m. let q : count n (numbers (stayed v)) + count n (numbers (given v)) ≡ count n (numbers v) = sum n in ov.mine i n (omega arith); fresh = ov.fresh };
       }
-
-  -- a seat takes in what another has
-  count-joined : (n : ℕ) (v w : Know N B) → count n (numbers (joined v w)) ≡ count n (numbers v) + count n (numbers w)
-  count-joined n v w =
-      let a : count n (numbers (joined v w)) ≡ count n (own v) + (count n (v.spare ++ w.spare) + count n (v.joined ++ (own w ++ w.joined))) = count_three n (own v) (v.spare ++ w.spare) (v.joined ++ (own w ++ w.joined)) in
-      let b : count n (v.spare ++ w.spare) ≡ count n v.spare + count n w.spare = count-append n v.spare w.spare in
-      let c : count n (v.joined ++ (own w ++ w.joined)) ≡ count n v.joined + (count n (own w) + count n w.joined) = count_three n v.joined (own w) w.joined in
-      let d : count n (numbers v) ≡ count n (own v) + (count n v.spare + count n v.joined) = count_three n (own v) v.spare v.joined in
-      let f : count n (numbers w) ≡ count n (own w) + (count n w.spare + count n w.joined) = count_three n (own w) w.spare w.joined in
-      omega arith
 
   pub numbered_joins : {t : Truth N B} {ws : List ℕ} {vs : List (Know N B)} (slots : ℕ) (id other : ℕ) (v w : Know N B) → Numbered number t ws vs → IsAt vs id v → other ≢ id → IsAt (set vs id (joined v w)) other w → v.live ≡ true → w.live ≡ true → SeesAll t slots v → SeesAll t slots w
       → Numbered number t ws (set (set vs id (joined v w)) other spent) × IsGrown number (joined v w).seen (joined v w).parts
@@ -144,8 +185,9 @@ module _ {N B : Type 0} (number : N → ℕ) where
       } in
       let os : OwnsAll number t (next_seat ws) (spent {N = N} {B = B}) = record { mine = λ k n a. let z : count n (numbers (spent {N = N} {B = B})) ≡ 0 = count-nil n in absurd (omega arith); fresh = λ li. absurd (true≢false (sym li)) } in (
         record {
-          once = λ n. let P : ℕ → Type 0 = λ y. y ≤ 1 in subst P (sym (equal n)) (s.once n);
+          given = λ n h. equal n ∙ s.given n h;
           unused = λ n h. equal n ∙ s.unused n h;
+          strange = s.strange;
           views = each_set (OwnsAll number t (next_seat ws)) (set vs id both) other spent (each_set (OwnsAll number t (next_seat ws)) vs id both s.views ob) os;
         },
         each_of_two (Grew number both.seen) (part v) (part w) record { front = grows_v; mine = λ k n a. sym (through_v k n a) ∙ ov.mine k n a } record { front = grows_w; mine = λ k n a. sym (through_w k n a) ∙ ow.mine k n a },

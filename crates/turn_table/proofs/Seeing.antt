@@ -22,6 +22,7 @@ module _ {S N B : Type 0} (journal : S → List N) (base : S → B) where
   shown_kept {t} {hs} {vs} id v w s e p q r = record {
     home = s.home;
     based = s.based;
+    begun = s.begun;
     views = each_set (SeesAll t (length hs)) vs id w s.views (p (s.views id v e));
     newest = λ k h. let n = s.newest k h in some_set (IsNewest t k) vs id v w e (q k) n.0 n.1 n.2 n.3;
     insides = λ k. let f : Know N B → ℕ = λ u. count k u.inside in let a : total f (set vs id w) + f v ≡ total f vs + f w = total_set f vs id v w e in let b : count k w.inside ≡ count k v.inside = r k in let c : total f vs ≡ gone (get_elem? hs k) = s.insides k in let d : total f (set vs id w) ≡ total f vs = omega arith in d ∙ c;
@@ -57,6 +58,7 @@ module _ {S N B : Type 0} (journal : S → List N) (base : S → B) where
       record {
         home = λ j y hy. ⊎_elim (λ p. absurd (some-ne-none (Some y) (sym p.1))) (λ p. s.home j y p.1) (at_set hs k j none (some (Some y)) hy);
         based = s.based ∙ sym same_len;
+        begun = s.begun ∙ sym same_len;
         views = let P : ℕ → Type 0 = λ n. (j : ℕ) (u : Know N B) → IsAt (set vs id w) j u → SeesAll t n u in subst P (sym same_len) (each_set (SeesAll t (length hs)) vs id w s.views sw);
         newest = λ j below. let n = s.newest j (omega arith) in some_set (IsNewest t j) vs id v w e (newest_w j) n.0 n.1 n.2 n.3;
         insides = λ j. let f : Know N B → ℕ = λ u. count j u.inside in let a : total f (set vs id w) + f v ≡ total f vs + f w = total_set f vs id v w e in let c : total f vs ≡ gone (get_elem? hs j) = s.insides j in
@@ -100,6 +102,7 @@ module _ {S N B : Type 0} (journal : S → List N) (base : S → B) where
       record {
         home = λ j y hy. ⊎_elim (λ (p : j ≡ k). absurd (some-ne-none (Some y) (some-injective (some (Some y)) none (let q : get_elem? hs j ≡ some none = subst (λ (i : ℕ). get_elem? hs i ≡ some none) (sym p) out in sym hy ∙ q)))) (λ (p : j ≢ k). let h = s.home j y hy in (h.0 ∙ sym (same j p), h.1)) (same_or j k);
         based = s.based;
+        begun = s.begun;
         views = each_set_else (SeesAll t' (length hs)) vs id w others sw;
         newest = λ j below. ⊎_elim (λ (p : j ≡ k). (id, w, at_here vs id w (at_below vs id v e), (let P : ℕ → Type 0 = λ i. IsNewest t' i w in subst P (sym p) newest_k)))
             (λ (p : j ≢ k). let n = s.newest j below in some_set (IsNewest t' j) vs id v w e (λ q. newest_w j p (q.0, q.1 ∙ same j p)) n.0 n.1 n.2 (n.3.0, n.3.1 ∙ sym (same j p))) (same_or j k);
@@ -125,6 +128,7 @@ module _ {S N B : Type 0} (journal : S → List N) (base : S → B) where
             subst Q (sym p.0) (subst P same (j_is ∙ at_k.1, (let R : List B → Type 0 = λ i. IsAt i k (base y) in subst R (sv.told at_k.0).0 b_is))))
             (λ p. s.home j x p.1) (at_set hs k j (some (Some y)) (some (Some x)) hx);
         based = s.based ∙ sym same_len;
+        begun = s.begun ∙ sym same_len;
         views = let P : ℕ → Type 0 = λ n. (j : ℕ) (u : Know N B) → IsAt (set vs id w) j u → SeesAll t n u in subst P (sym same_len) (each_set (SeesAll t (length hs)) vs id w s.views sw);
         newest = λ j below. let n = s.newest j (omega arith) in some_set (IsNewest t j) vs id v w e (λ q. q) n.0 n.1 n.2 n.3;
         insides = λ j. let f : Know N B → ℕ = λ u. count j u.inside in let a : total f (set vs id w) + f v ≡ total f vs + f w = total_set f vs id v w e in let c : total f vs ≡ gone (get_elem? hs j) = s.insides j in let i : count j v.inside ≡ count j (k ∷ w.inside) = ap (count j) ins in

@@ -33,6 +33,7 @@ module _ {S N B : Type 0} (journal : S → List N) (base : S → B) where
       record {
         home = s.home;
         based = s.based;
+        begun = s.begun;
         views = each_more (SeesAll t (length hs)) (set vs id (stayed v)) (given v) (each_set (SeesAll t (length hs)) vs id (stayed v) s.views sv)
             record { long = sv.long; told = sv.told; front = sv.front; inside = λ k a. let z : count k [] ≡ 0 = count-nil k in absurd (omega arith) };
         newest = λ k h. let n = s.newest k h in let m = some_set (IsNewest t k) vs id v (stayed v) e (λ q. q) n.0 n.1 n.2 n.3 in (m.0, m.1, at_longer (set vs id (stayed v)) (given v ∷ []) m.0 m.1 m.2, m.3);
@@ -67,6 +68,7 @@ module _ {S N B : Type 0} (journal : S → List N) (base : S → B) where
       record {
         home = s.home;
         based = s.based;
+        begun = s.begun;
         views = each_set (SeesAll t (length hs)) vs' other spent (each_set (SeesAll t (length hs)) vs id both s.views sb) none;
         newest = λ k h. let n = s.newest k h in
             ⊎_elim (λ (p : n.0 ≡ id). let P : ℕ → Type 0 = λ j. IsAt vs j n.1 in let u_is : n.1 ≡ v = at_one vs id n.1 v (subst P p n.2) e in (id, both, at_both, (lv, whole_left k (ap (λ (u : Know N B). at_slot u.seen k) (sym u_is) ∙ n.3.1))))

@@ -1,5 +1,5 @@
 -- The rule holds of a table that begins.
-use Rattle.std.proofs.Common.{◌≡◌, ℕ, zero, suc, ◌+◌, ◌^◌, ◌<◌, ◌≤◌, ◌≢◌, List, [], ◌∷◌, length, map, get_or, Option, Some, refl, ap, sym, ◌∙◌, subst, ⊎_elim, arith}
+use Rattle.std.proofs.Common.{◌≡◌, ℕ, zero, suc, ◌+◌, ◌^◌, ◌<◌, ◌≤◌, List, [], ◌∷◌, length, map, get_or, Option, Some, refl, ap, sym, ◌∙◌, subst, arith}
 use Rattle.std.proofs.lemmas.List.{length-map}
 use mathlib.Core.Option.{some, some-injective, some-ne-none}
 use lib.ListN.{get_elem?}
@@ -9,7 +9,7 @@ use Rattle.turn_facts.specs.Notes.{times}
 use Rattle.turn_facts.specs.Prefixes.{IsAt}
 use Rattle.turn_facts.proofs.Counts.{count-nil, count-here, count-else}
 use Rattle.turn_facts.proofs.Notes.{times-nil}
-use Rattle.turn_facts.proofs.Places.{same_or, at_get, at_map}
+use Rattle.turn_facts.proofs.Places.{at_get, at_map}
 use Rattle.turn_facts.proofs.Prefixes.{starts_all}
 use Rattle.turn_facts.proofs.Totals.{total_one}
 use Rattle.turn_table.specs.declared.knows.Know.{Know}
@@ -47,11 +47,11 @@ module _ {S N B : Type 0} (journal : S → List N) (base : S → B) (number : N 
   opens first xs low above =
       let js : List (List N) = map journal xs in
       let v : Know N B = opening js (map base xs) first in
-      let t : Truth N B = record { journals = at_slot js; bases = map base xs; first = first } in
+      let t : Truth N B = record { journals = at_slot js; bases = map base xs; origin = js; first = first } in
       let many : length (all_home xs) ≡ length xs = length-map xs (λ (x : S). some (Some x)) in
       let sv : SeesAll t (length (all_home xs)) v = record {
         long = λ l. length-map xs journal ∙ sym many;
-        told = λ l. (refl, refl);
+        told = λ l. (refl, refl, refl);
         front = λ k. starts_all (at_slot js k);
         inside = λ k a. let z : count k [] ≡ 0 = count-nil k in absurd (omega arith);
       } in
@@ -61,19 +61,21 @@ module _ {S N B : Type 0} (journal : S → List N) (base : S → B) (number : N 
         shown = record {
           home = λ k x h. let at : IsAt xs k x = home_at xs k x h in (sym (at_get js k (journal x) [] (at_map journal xs k x at)), at_map base xs k x at);
           based = length-map xs base ∙ sym many;
+          begun = length-map xs journal ∙ sym many;
           views = only (SeesAll t (length (all_home xs))) v sv;
           newest = λ k h. (0, v, refl, (refl, refl));
           insides = λ k. total_one (λ (u : Know N B). count k u.inside) v ∙ count-nil k ∙ sym (none_gone xs k);
         };
         numbers = record {
-          once = λ n. let a : total (λ (u : Know N B). count n (numbers u)) (v ∷ []) ≡ count n (numbers v) = total_one (λ (u : Know N B). count n (numbers u)) v in
-              ⊎_elim (λ (p : 0 ≡ n). let b : count n (0 ∷ []) ≡ 1 + count n [] = subst (λ (i : ℕ). count n (i ∷ []) ≡ 1 + count n []) (sym p) (count-here n []) in let z : count n [] ≡ 0 = count-nil n in omega arith)
-              (λ (p : 0 ≢ n). let b : count n (0 ∷ []) ≡ count n [] = count-else n 0 [] p in let z : count n [] ≡ 0 = count-nil n in omega arith) (same_or 0 n);
+          given = λ n h. let a : total (λ (u : Know N B). count n (numbers u)) (v ∷ []) ≡ count n (0 ∷ []) = total_one (λ (u : Know N B). count n (numbers u)) v in let p : 0 ≡ n = omega arith in
+              let b : count n (0 ∷ []) ≡ 1 + count n [] = subst (λ (i : ℕ). count n (i ∷ []) ≡ 1 + count n []) (sym p) (count-here n []) in let z : count n [] ≡ 0 = count-nil n in omega arith;
           unused = λ n h. total_one (λ (u : Know N B). count n (numbers u)) v ∙ count-else n 0 [] (λ p. omega arith) ∙ count-nil n;
+          strange = λ k n h. refl;
           views = only (OwnsAll number t 1) v ov;
         };
         drawn = record {
           once = λ x. let a : total (λ (u : Know N B). count x u.drawn) (v ∷ []) ≡ count x [] = total_one (λ (u : Know N B). count x u.drawn) v in let z : count x [] ≡ 0 = count-nil x in omega arith;
+          early = λ x h. total_one (λ (u : Know N B). count x u.drawn) v ∙ count-nil x;
           below = λ x h. total_one (λ (u : Know N B). count x u.drawn) v ∙ count-nil x;
           least = only (λ (u : Know N B). u.least ≤ first) v (omega arith);
           first = omega arith;

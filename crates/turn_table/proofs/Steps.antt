@@ -16,7 +16,7 @@ use Rattle.turn_table.specs.Rule.{Truth, IsGrown, SeesAll, Kept, grown_truth, cl
 use Rattle.turn_table.specs.Tells.{Took, Drew, Numbers, Settled}
 use Rattle.turn_table.proofs.Drawing.{drawn_kept, drawn_counts, drawn_draws, drawn_splits, drawn_joins}
 use Rattle.turn_table.proofs.Measuring.{measured_kept, measured_counts}
-use Rattle.turn_table.proofs.Owning.{numbered_kept, owns_seen, numbered_counts, numbered_numbers, numbered_splits, numbered_joins}
+use Rattle.turn_table.proofs.Owning.{numbered_once, numbered_kept, owns_seen, numbered_counts, numbered_numbers, numbered_splits, numbered_joins}
 use Rattle.turn_table.proofs.Seeing.{shown_kept, shown_enters, shown_counts, shown_leaves}
 use Rattle.turn_table.proofs.Sharing.{shown_splits, shown_joins}
 use Rattle.turn_table.proofs.Summing.{summed_kept, summed_draws, summed_lifts, summed_numbers, summed_splits, summed_joins, clock_low}
@@ -125,7 +125,7 @@ module _ {S N B : Type 0} (journal : S → List N) (base : S → B) (number : N 
         },
         record {
           is = refl;
-          first = let a : t.first ≤ x = s.drawn.first in let b : v.first ≡ t.first = (sv.told live).1 in omega arith;
+          first = let a : t.first ≤ x = s.drawn.first in let b : v.first ≡ t.first = (sv.told live).2 in omega arith;
           least = s.drawn.least id v e;
           drawn = λ y a. ⊎_elim (λ (h : y < x). h) (λ (h : x ≤ y). let f : Know N B → ℕ = λ u. count y u.drawn in let z : total f vs ≡ 0 = s.drawn.below y h in let b : f v ≤ total f vs = total_least f vs id v e in absurd (omega arith)) (cases_lt y x);
           seen = λ k y a. s.drawn.times k y (times_starts number time y (sv.front k) a);
@@ -221,7 +221,7 @@ module _ {S N B : Type 0} (journal : S → List N) (base : S → B) (number : N 
           is = refl;
           grown = s.grown id v e;
           once = λ x. let f : Know N B → ℕ = λ u. count x u.drawn in let a : f v ≤ total f vs = total_least f vs id v e in let b : total f vs ≤ 1 = s.drawn.once x in omega arith;
-          apart = λ n. let f : Know N B → ℕ = λ u. count n (numbers u) in let a : f v ≤ total f vs = total_least f vs id v e in let b : total f vs ≤ 1 = s.numbers.once n in omega arith;
+          apart = λ n. let f : Know N B → ℕ = λ u. count n (numbers u) in let a : f v ≤ total f vs = total_least f vs id v e in let b : total f vs ≤ 1 = numbered_once number s.numbers n in omega arith;
         },
       )
 

@@ -78,8 +78,8 @@ module _ {N B : Type 0} where
 
   -- a seat that was joined to another
   abbrev pub spent : Know N B
-  spent = record { live = false; number = 0; spare = []; joined = []; allowance = 0; gift = 0; drawn = []; mark = 0; first = 0; least = 0; seen = []; bases = []; inside = []; parts = [] }
+  spent = record { live = false; number = 0; spare = []; joined = []; allowance = 0; gift = 0; drawn = []; mark = 0; first = 0; least = 0; seen = []; bases = []; origin = []; inside = []; parts = [] }
 
   -- the first seat
   abbrev pub opening : List (List N) → List B → ℕ → Know N B
-  opening js bs first = record { live = true; number = 0; spare = []; joined = []; allowance = 2 ^ 40; gift = 0; drawn = []; mark = 0; first = first; least = first; seen = js; bases = bs; inside = []; parts = [] }
+  opening js bs first = record { live = true; number = 0; spare = []; joined = []; allowance = 2 ^ 40; gift = 0; drawn = []; mark = 0; first = first; least = first; seen = js; bases = bs; origin = js; inside = []; parts = [] }

@@ -11,15 +11,16 @@ use Rattle.turn_table.specs.declared.knows.Know.{Know}
 use Rattle.turn_table.specs.declared.knows.Part.{Part}
 use Rattle.turn_table.specs.Knowledge.{at_slot, numbers, weight, allowance}
 
--- what no word holds: the journal of each slot, the bases, and the least number that was to be drawn
+-- what no word holds: the journal of each slot, the bases, the journals with which the table began, and the least number that was to be drawn
 pub record Truth (N B : Type 0) : Type 0 where
   pub journals : ℕ → List N
   pub bases : List B
+  pub origin : List (List N)
   pub first : ℕ
 
 -- the same, but that the journal of the slot k is l
 abbrev pub grown_truth : {N B : Type 0} → Truth N B → ℕ → List N → Truth N B
-grown_truth t k l = record { journals = put t.journals k l; bases = t.bases; first = t.first }
+grown_truth t k l = record { journals = put t.journals k l; bases = t.bases; origin = t.origin; first = t.first }
 
 -- how many values are out of a slot
 abbrev pub gone : {S : Type 0} → maybe.Option (maybe.Option (Option S)) → ℕ
@@ -44,14 +45,14 @@ IsGrown {N} number seen parts = (i : ℕ) (p : Part N) → IsAt parts i p → Gr
 
 module _ {N B : Type 0} where
   -- what a seat has seen of each journal is a beginning of it, and all of it inside of a turn
-  pub record Sees (t : Truth N B) (slots : ℕ) (live : Bool) (seen : List (List N)) (bases : List B) (first : ℕ) (turns : List ℕ) : Type 0 where
+  pub record Sees (t : Truth N B) (slots : ℕ) (live : Bool) (seen : List (List N)) (bases : List B) (origin : List (List N)) (first : ℕ) (turns : List ℕ) : Type 0 where
     pub long : live ≡ true → length seen ≡ slots
-    pub told : live ≡ true → (bases ≡ t.bases) × (first ≡ t.first)
+    pub told : live ≡ true → (bases ≡ t.bases) × (origin ≡ t.origin) × (first ≡ t.first)
     pub front : (k : ℕ) → StartsWith (t.journals k) (at_slot seen k)
     pub inside : (k : ℕ) → Among k turns → (live ≡ true) × (at_slot seen k ≡ t.journals k)
 
   abbrev pub SeesAll : Truth N B → ℕ → Know N B → Type 0
-  SeesAll t slots v = Sees t slots v.live v.seen v.bases v.first v.inside
+  SeesAll t slots v = Sees t slots v.live v.seen v.bases v.origin v.first v.inside
 
   -- it is a seat still, and has seen the whole journal
   abbrev pub IsNewest : Truth N B → ℕ → Know N B → Type 0
@@ -61,6 +62,7 @@ module _ {N B : Type 0} where
   pub record Shown {S : Type 0} (journal : S → List N) (base : S → B) (t : Truth N B) (hs : Homes S) (vs : List (Know N B)) : Type 0 where
     pub home : (k : ℕ) (x : S) → IsHome hs k x → (journal x ≡ t.journals k) × IsAt t.bases k (base x)
     pub based : length t.bases ≡ length hs
+    pub begun : length t.origin ≡ length hs
     pub views : (j : ℕ) (v : Know N B) → IsAt vs j v → SeesAll t (length hs) v
     pub newest : (k : ℕ) → k < length hs → (j : ℕ) × (v : Know N B) × IsAt vs j v × IsNewest t k v
     pub insides : (k : ℕ) → total (λ (v : Know N B). count k v.inside) vs ≡ gone (get_elem? hs k)
@@ -73,15 +75,17 @@ module _ {N B : Type 0} where
   abbrev pub OwnsAll : (N → ℕ) → Truth N B → ℕ → Know N B → Type 0
   OwnsAll number t next v = Owns number t next v.live (numbers v) v.seen
 
-  -- no number is at two seats, nor twice at one
+  -- each number that was given is at exactly one seat, and once; of a number that was not given yet there is no note but those with which the table began
   pub record Numbered (number : N → ℕ) (t : Truth N B) (ws : List ℕ) (vs : List (Know N B)) : Type 0 where
-    pub once : (n : ℕ) → total (λ (v : Know N B). count n (numbers v)) vs ≤ 1
+    pub given : (n : ℕ) → n < next_seat ws → total (λ (v : Know N B). count n (numbers v)) vs ≡ 1
     pub unused : (n : ℕ) → next_seat ws ≤ n → total (λ (v : Know N B). count n (numbers v)) vs ≡ 0
+    pub strange : (k n : ℕ) → next_seat ws ≤ n → of number n (t.journals k) ≡ of number n (at_slot t.origin k)
     pub views : (j : ℕ) (v : Know N B) → IsAt vs j v → OwnsAll number t (next_seat ws) v
 
-  -- no number was drawn twice, and the clock is above all that were drawn, seen or lifted to
+  -- no number was drawn twice, each is at least the first, and the clock is above all that were drawn, seen or lifted to
   pub record Drawn (time : N → Option ℕ) (t : Truth N B) (ws : List ℕ) (vs : List (Know N B)) : Type 0 where
     pub once : (x : ℕ) → total (λ (v : Know N B). count x v.drawn) vs ≤ 1
+    pub early : (x : ℕ) → x < t.first → total (λ (v : Know N B). count x v.drawn) vs ≡ 0
     pub below : (x : ℕ) → clock ws ≤ x → total (λ (v : Know N B). count x v.drawn) vs ≡ 0
     pub least : (j : ℕ) (v : Know N B) → IsAt vs j v → v.least ≤ clock ws
     pub first : t.first ≤ clock ws

@@ -27,6 +27,8 @@ pub record SeatView (N B : Type 0) : Type 0 where
   -- no number that it draws is below this one
   pub least : ℕ
   pub seen : List (List N)
+  -- the journals with which the table began
+  pub origin : List (List N)
   pub turns : List Ticket
   -- how many numbers it had drawn when it entered its turn
   pub mark : ℕ
@@ -44,6 +46,7 @@ module _ {S N B : Type 0} where
     joined = (known p).joined;
     least = (known p).least;
     seen = (known p).seen;
+    origin = (known p).origin;
     turns = p.me.0.tickets;
     mark = (known p).mark;
   }
@@ -69,7 +72,7 @@ module _ {N B : Type 0} where
 
   -- the seat with which a table begins
   abbrev pub first_seat : Table B → List (List N) → SeatView N B
-  first_seat t js = record { table = t; number = 0; allowance = 2 ^ 40; drawn = []; joined = []; least = t.first; seen = js; turns = []; mark = 0 }
+  first_seat t js = record { table = t; number = 0; allowance = 2 ^ 40; drawn = []; joined = []; least = t.first; seen = js; origin = js; turns = []; mark = 0 }
 
   -- the turn is the one that the seat holds
   pub record IsGiven {V : Type 0} (seat : SeatView N B) (turn : Turn V) : Type 0 where

@@ -1,11 +1,11 @@
 -- What each step tells the seat that takes it.
-use Rattle.std.specs.Prelude.{◌≡◌, ℕ, ◌+◌, ◌^◌, ◌<◌, ◌≤◌, List, map, length, max, Option}
+use Rattle.std.specs.Prelude.{◌≡◌, ℕ, ◌<◌, ◌≤◌, List, length, Option}
 use Rattle.turn_facts.specs.Counts.{Among, NoneTwice}
 use Rattle.turn_facts.specs.Notes.{of, times}
 use Rattle.turn_facts.specs.Prefixes.{StartsWith, IsAt}
 use Rattle.turn_table.specs.declared.knows.Know.{Know}
 use Rattle.turn_table.specs.Knowledge.{at_slot, numbers, entered, drew, numbered, settled}
-use Rattle.turn_table.specs.Rule.{IsGrown, clock}
+use Rattle.turn_table.specs.Rule.{IsGrown}
 
 module _ {S N B : Type 0} where
   -- it has seen the whole journal of the value, which begins with what it had seen, and of notes of its numbers has nothing new
@@ -15,14 +15,6 @@ module _ {S N B : Type 0} where
     pub more : StartsWith (journal x) (at_slot v.seen k)
     pub mine : (n : ℕ) → Among n (numbers v) → of number n (journal x) ≡ of number n (at_slot v.seen k)
     pub place : IsAt v.bases k (base x)
-
-  -- the values are at home with the journals and bases that the seat knows, and the clock is above all that it drew
-  pub record Ends (journal : S → List N) (base : S → B) (v : Know N B) (ws : List ℕ) (xs : List S) : Type 0 where
-    pub journals : map journal xs ≡ v.seen
-    pub bases : map base xs ≡ v.bases
-    pub first : v.first ≤ clock ws
-    pub drawn : (x : ℕ) → Among x v.drawn → x < clock ws
-    pub most : clock ws ≤ 2 ^ 40 + max v.first (2 ^ 63)
 
 module _ {N B : Type 0} where
   -- the number is above all that the seat has seen or drawn, and at least what it lifted to

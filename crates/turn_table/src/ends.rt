@@ -1,8 +1,9 @@
 //! How a table begins and ends.
-ghost use Rattle.std.specs.Prelude.{◌≡◌, ℕ, ◌+◌, ◌^◌, ◌<◌, ◌≤◌, [], map, length, max, IfOk, IfErr, vec_capacity, vec_len};
-ghost use Rattle.turn_facts.specs.Counts.{Among};
-ghost use Rattle.turn_facts.specs.Notes.{times};
+ghost use Rattle.std.specs.Prelude.{◌≡◌, ℕ, ◌+◌, ◌^◌, ◌<◌, ◌≤◌, [], ◌∷◌, map, length, max, IfOk, IfErr, vec_capacity, vec_len};
+ghost use Rattle.turn_facts.specs.Counts.{count, Among};
+ghost use Rattle.turn_facts.specs.Notes.{of, times};
 ghost use Rattle.turn_facts.specs.Prefixes.{IsAt};
+ghost use Rattle.turn_table.specs.Knowledge.{at_slot};
 ghost use Rattle.turn_table.specs.Rule.{first_words};
 ghost use Rattle.turn_table.specs.Seats.{first_seat};
 
@@ -54,15 +55,18 @@ impl<V: Journalled> Turns<V> {
         Ok((turns, Seat { pass, number: 0 }))
     }
 
-    /// Ends the table, once every other seat was joined to this one. It gives the values in their order, in the vector that `new` was given, each with the base that it had there and with the journal that the seat has seen whole; and the number that would have been drawn next.
+    /// Ends the table, once every other seat was joined to this one. It gives the values in their order, in the vector that `new` was given, each with the base that it had there and with the journal that the seat has seen whole, to which since `new` no notes were added but of the numbers of this seat and of those joined to it; and the number that would have been drawn next.
     pub fn close(self, seat: Seat<V>) -> (Vec<V>, u64)
         requires table { seat.table ≡ self }
         requires rest { seat.turns ≡ [] }
         requires all { seat.allowance + (length seat.drawn + length seat.joined) ≡ 2 ^ 40 }
         ensures journals { map V.journal result.0.items ≡ seat.seen }
         ensures bases { map V.base result.0.items ≡ self.bases }
+        ensures whose { (k n : ℕ) → count n (seat.number ∷ seat.joined) ≡ 0 → of V.number_of n (at_slot seat.seen k) ≡ of V.number_of n (at_slot seat.origin k) }
         ensures first { self.first ≤ result.1 }
+        ensures since { (x : ℕ) → Among x seat.drawn → self.first ≤ x }
         ensures drawn { (x : ℕ) → Among x seat.drawn → x < result.1 }
+        ensures times { (k x : ℕ) → Among x (times V.time_of (at_slot seat.seen k)) → x < result.1 }
         ensures most { result.1 ≤ 2 ^ 40 + max self.first (2 ^ 63) }
     {
         let Turns { lock } = self;

@@ -27,6 +27,8 @@ pub struct Know<N, B> {
     pub least: u64,
     pub seen: LinkedList<LinkedList<N>>,
     pub bases: LinkedList<B>,
+    // The journals with which the table began.
+    pub origin: LinkedList<LinkedList<N>>,
     // The slots whose turns it has.
     pub inside: LinkedList<u64>,
     // The two seats that it was at its last join.

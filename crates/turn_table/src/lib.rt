@@ -1,6 +1,10 @@
-//! Values behind turns that threads take: each turn is one seat's alone, and what a seat knows of the values' journals stays true while other threads go on.
+//! Values behind turns that threads take: each turn is one seat's alone, and what a seat knows of the
+//! values' journals stays true while other threads go on.
 //!
-//! The layer above relies on this: a turn extends a value's journal by notes of its own seat alone and changes no base; a drawn number is above all that the seat has seen or drawn, and no number is drawn twice; closing gives the values back with the journals that the last seat has seen.
+//! The layer above relies on this: a turn extends a value's journal by notes of its own seat alone and
+//! changes no base; a drawn number is above all that the seat has seen or drawn, and no number is drawn
+//! twice; closing gives the values back with the journals that the last seat has seen, in which no note
+//! is of anyone else.
 #![tactic(auto)]
 
 mod ends;

@@ -10,7 +10,8 @@ use Rattle.plain_run.specs.Accounts.{plain_of}
 use Rattle.manu_serve.specs.Answerings.{asked_in, IsPartly}
 use Rattle.manu_serve.specs.Paces.{least_of}
 use Rattle.legal_output.specs.Runs.{Plain}
-use Rattle.manu_serve.proofs.Accounts.{one_channel, partly_none, legal_from, of_moment-le}
+use Rattle.request_lines.proofs.Known.{one_channel}
+use Rattle.manu_serve.proofs.Accounts.{partly_none, legal_from, of_moment-le}
 use Rattle.manu_serve.proofs.answering.answer_input.Goals as goal
 
 pub answer_lines-requires-clause-run : goal.answer_lines-requires-clause-run

@@ -1,4 +1,4 @@
-use Rattle.std.proofs.Common.{length, ◌+◌, ◌≤◌, arith}
+use Rattle.std.proofs.Common.{◌+◌, arith}
 use Rattle.input_lines.specs.Lines.{lines_of}
 use Rattle.hybrid_time.specs.Times.{of_moment}
 use Rattle.legal_output.specs.Outputs.{start_of}

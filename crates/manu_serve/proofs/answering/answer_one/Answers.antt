@@ -1,7 +1,5 @@
 use Rattle.std.proofs.Common.{refl}
 use Rattle.answer_lines.specs.Lines.{text_of}
-use Rattle.manu_serve.specs.Paces.{least_of}
-use Rattle.manu_serve.proofs.Accounts.{drawn_later}
 use Rattle.manu_serve.proofs.answering.answer_one.Goals as goal
 
 pub returns-clause-text : goal.returns-clause-text
@@ -12,6 +10,6 @@ returns-clause-text g c = (
     answer = c.in_ok-answer.answer;
     serves = c.in_ok-answer.ensures.serves;
     printed_as = refl;
-    drawn_from = drawn_later (least_of c.args.pace (g.M.Moments.least c.args.moments.now)) c.moment.result _ c.moment.ensures c.in_ok-answer.ensures.moments;
+    drawn_from = c.in_ok-answer.ensures.moments;
   },
 )

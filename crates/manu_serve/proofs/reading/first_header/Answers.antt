@@ -1,5 +1,5 @@
-use Rattle.std.proofs.Common.{◌≢◌, ℕ, ◌<◌, ◌≤◌, length, get_or, arith}
-use Rattle.input_lines.specs.declared.limits.TheConstants.{MAX_LINE}
+use Rattle.std.proofs.Common.{◌<◌, length, arith}
+use Rattle.std.proofs.lemmas.Result.{err_from_is_err_and}
 use Rattle.manu_serve.proofs.Prefixes.{opened, long_line, good_line, refused_line}
 use Rattle.manu_serve.proofs.reading.first_header.Goals as goal
 
@@ -9,14 +9,15 @@ returns-then-end-clause-ended c =
     let i : c.find_end-end.result < length c.args.bytes.now = omega arith in
     long_line c.args.bytes.now c.find_end-end.result i (end.found i) (opened c.args.bytes.now c.args.from c.find_end-end.result c.requires.from c.requires.open end.before) (omega arith)
 
-pub returns-in-Ok-clause-known : goal.returns-in-Ok-clause-known
-returns-in-Ok-clause-known c =
+pub returns-clause-known : goal.returns-clause-known
+returns-clause-known c =
     let end = c.find_end-end.ensures in
     let i : c.find_end-end.result < length c.args.bytes.now = omega arith in
-    good_line c.args.bytes.now c.find_end-end.result i (end.found i) (opened c.args.bytes.now c.args.from c.find_end-end.result c.requires.from c.requires.open end.before) c.in-Ok.collection c.in-Ok.ensures.ok c.in-Ok.ensures.in_range
+    good_line c.args.bytes.now c.find_end-end.result i (end.found i) (opened c.args.bytes.now c.args.from c.find_end-end.result c.requires.from c.requires.open end.before) c.in_ok-collection.collection c.in_ok-collection.ensures.ok c.in_ok-collection.ensures.in_range
 
-pub returns-in-Err-clause-ended : goal.returns-in-Err-clause-ended
-returns-in-Err-clause-ended c =
+pub returns-in_err-collection-clause-ended : goal.returns-in_err-collection-clause-ended
+returns-in_err-collection-clause-ended c =
+    let p = err_from_is_err_and c.from_residual.result c.from_residual.ensures.1 in
     let end = c.find_end-end.ensures in
     let i : c.find_end-end.result < length c.args.bytes.now = omega arith in
-    refused_line c.args.bytes.now c.find_end-end.result i (end.found i) (opened c.args.bytes.now c.args.from c.find_end-end.result c.requires.from c.requires.open end.before) c.in-Err.error (omega arith) c.in-Err.ensures.err
+    rw (p.1, p.2) (refused_line c.args.bytes.now c.find_end-end.result i (end.found i) (opened c.args.bytes.now c.args.from c.find_end-end.result c.requires.from c.requires.open end.before) c.in_err-collection.field-0.0 (omega arith) c.in_err-collection.ensures.err)

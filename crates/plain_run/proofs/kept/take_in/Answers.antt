@@ -18,4 +18,4 @@ entries-preserved c = record {
 pub returns-then-ts-entry-clause-late : goal.returns-then-ts-entry-clause-late
 returns-then-ts-entry-clause-late c =
     subst (λ n. IsAbove c.args.ts.0 (drop n c.args.log.now)) (sym c.entries.invariant.place)
-    (late_behind c.args.log.now c.args.ts.0 c.entries.place c.index-log-place.result c.requires.rising c.entries-test.true c.index-log-place.is c.if-ts-entry.true)
+    (late_behind c.args.log.now c.args.ts.0 c.entries.place c.index-log-place.result c.requires.ordered c.entries-test.true c.index-log-place.is c.if-ts-entry.true)

@@ -1,11 +1,11 @@
-use Rattle.std.proofs.Common.{◌≡◌, ℕ, ◌+◌, ◌≤◌, List, [], ◌∷◌, ◌++◌, length, take, ap, ◌∙◌, rules, subst, sym, arith, length-append}
+use Rattle.std.proofs.Common.{◌≡◌, ℕ, inl, ◌+◌, ◌≤◌, List, [], ◌∷◌, ◌++◌, length, take, ap, ◌∙◌, rules, subst, sym, arith, length-append}
 use Rattle.std.specs.List.{AllByRecursion}
 use Rattle.std.specs.FinMap as fin
 use Rattle.std.proofs.lemmas.List.{take-append-le}
 use Rattle.log_model.specs.declared.logs.Entry.{Entry}
 use Rattle.log_model.specs.Logs.{IsLog, rows_of}
-use Rattle.log_model.proofs.LogLaws.{rows_of-append}
-use Rattle.plain_run.proofs.Firsts.{rises-append}
+use Rattle.log_model.proofs.LogLaws.{each_implied, rows_of-append}
+use Rattle.log_model.proofs.LogOrder.{log-push}
 use Rattle.plain_run.proofs.kept.Kept.push.Goals as goal
 
 grow : (n : ℕ) (log more : List Entry) (entry : Entry) → more ≡ log ++ entry ∷ [] → n ≤ length log → n ≤ length more
@@ -19,7 +19,7 @@ invariant_of-self-2 c =
     let first : take c.args.self.now.taken c.push.new.self.items ≡ take c.args.self.now.taken c.args.self.now.log.items =
     ap (take c.args.self.now.taken) grown ∙ take-append-le c.args.self.now.taken c.args.self.now.log.items (c.args.entry ∷ []) c.args.self.now.within in
     record {
-      rising = subst IsLog (sym grown) (rises-append c.args.self.now.log.items c.args.entry c.args.self.now.rising c.requires);
+      ordered = subst IsLog (sym grown) (log-push c.args.self.now.log.items c.args.entry c.args.self.now.ordered (each_implied _ _ (λ other. inl) c.args.self.now.log.items c.requires));
       live =
           ap (λ log. fin.keys (rows_of log)) grown
           ∙ ap fin.keys (rows_of-append c.args.self.now.log.items (c.args.entry ∷ []))

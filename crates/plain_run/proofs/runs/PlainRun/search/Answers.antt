@@ -5,6 +5,7 @@ use Rattle.legal_output.specs.Runs.{Serves}
 use Rattle.answer_lines.specs.declared.answers.Answer.TheVariants as answers
 use Rattle.request_lines.specs.declared.requests.Ask.TheVariants as asks
 use Rattle.plain_run.specs.Accounts.{plain_of, alone}
+use Rattle.plain_run.proofs.Fits.{log-dimension}
 use Rattle.plain_run.proofs.Served.{IsSnapshot, snapshot_facts, guarantee_most, served_search, stamp}
 use Rattle.plain_run.proofs.runs.PlainRun.search.Goals as goal
 
@@ -29,4 +30,5 @@ returns-clause-serves c = λ wait.
     taken.guaranteed taken.known taken.drawn taken.within (c.of.ensures ∙ c.in_ok-hits.ensures.hits))
 
 pub scan-requires-clause-fits : goal.scan-requires-clause-fits
-scan-requires-clause-fits c = subst (λ dim. HasDimension dim c.args.self.now.kept.log.items) (sym c.requires.fits.vector) c.requires.run.fits
+scan-requires-clause-fits c = subst (λ dim. HasDimension dim c.args.self.now.kept.log.items) (sym c.requires.fits.vector)
+    (log-dimension c.args.collection.now c.args.self.now.kept.log.items c.requires.run.fits)

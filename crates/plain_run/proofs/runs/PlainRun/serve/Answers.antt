@@ -19,10 +19,10 @@ returns-in-Write-clause-moments c = ok_implied _ _ (λ answer all. later_moments
 
 pub returns-in-Write-clause-run : goal.returns-in-Write-clause-run
 returns-in-Write-clause-run c =
-    let fits = subst (FitsAsk c.args.collection.now.dim) (c.in-Write.is ∙ ap asks.Write (sym c.in-Write.write-is)) c.requires.fits in
+    let fits = subst (FitsAsk c.args.collection.now) (c.in-Write.is ∙ ap asks.Write (sym c.in-Write.write-is)) c.requires.fits in
     record {
       channels = c.requires.run.channels;
-      fits = c.write.ensures.fits c.args.collection.now.dim c.requires.run.fits fits;
+      fits = c.write.ensures.fits c.args.collection.now c.requires.run.fits fits;
     }
 
 pub returns-in-Search-clause-moments : goal.returns-in-Search-clause-moments
