@@ -13,6 +13,8 @@ mod marks;
 mod parts;
 mod rows;
 mod sealed;
+#[cfg(test)]
+mod tests;
 
 pub use crate::marks::{Deaths, Marks};
 pub use crate::parts::Part;
