@@ -42,10 +42,8 @@ impl Progress {
 
     /// Behind `bytes`, or `Over` where they pass a limit, whatever comes behind them.
     pub fn walk(self, bytes: &[u8]) -> Result<Progress, Over>
-        ensures within {
-            IfOk result (λ after. (rest : List ℕ) →
-                LimitsBehind self.lines self.current (lines_of (bytes.now ++ rest)) ↔ LimitsBehind after.lines after.current (lines_of rest))
-        }
+        ensures within { IfOk result (λ after. (rest : List ℕ) →
+            LimitsBehind self.lines self.current (lines_of (bytes.now ++ rest)) ↔ LimitsBehind after.lines after.current (lines_of rest)) }
         ensures over { OnErr result ((rest : List ℕ) → ¬ LimitsBehind self.lines self.current (lines_of (bytes.now ++ rest))) }
     {
         let mut progress = self;
@@ -56,10 +54,8 @@ impl Progress {
     }
 
     fn step(self, byte: u8) -> Result<Progress, Over>
-        ensures within {
-            IfOk result (λ after. (rest : List ℕ) →
-                LimitsBehind self.lines self.current (lines_of (byte ∷ rest)) ↔ LimitsBehind after.lines after.current (lines_of rest))
-        }
+        ensures within { IfOk result (λ after. (rest : List ℕ) →
+            LimitsBehind self.lines self.current (lines_of (byte ∷ rest)) ↔ LimitsBehind after.lines after.current (lines_of rest)) }
         ensures over { OnErr result ((rest : List ℕ) → ¬ LimitsBehind self.lines self.current (lines_of (byte ∷ rest))) }
     {
         match self.current {
@@ -74,10 +70,8 @@ impl Progress {
 fn extend(lines: u32, bytes: u32, byte: u8) -> Result<Progress, Over>
     requires lines { lines ≤ MAX_LINES }
     requires bytes { bytes ≤ MAX_LINE }
-    ensures within {
-        IfOk result (λ after. (rest : List ℕ) →
-            LimitsBehind lines (Some bytes) (lines_of (byte ∷ rest)) ↔ LimitsBehind after.lines after.current (lines_of rest))
-    }
+    ensures within { IfOk result (λ after. (rest : List ℕ) →
+        LimitsBehind lines (Some bytes) (lines_of (byte ∷ rest)) ↔ LimitsBehind after.lines after.current (lines_of rest)) }
     ensures over { OnErr result ((rest : List ℕ) → ¬ LimitsBehind lines (Some bytes) (lines_of (byte ∷ rest))) }
 {
     if byte == b'\n' {

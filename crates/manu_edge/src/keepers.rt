@@ -31,10 +31,8 @@ pub trait Keeper {
     /// The bytes under a name, if there are any.
     fn get(&mut self, name: u64) -> Result<Option<Vec<u8>>, KeepError>
         requires { name < 2 ^ 63 }
-        ensures found {
-            WhereTold (kept self.old) (kept self.new)
-                (λ objects _. IfOk result (λ bytes. option_map (λ b. b.items) bytes ≡ fin.get objects name))
-        }
+        ensures found { WhereTold (kept self.old) (kept self.new)
+            (λ objects _. IfOk result (λ bytes. option_map (λ b. b.items) bytes ≡ fin.get objects name)) }
         ensures objects { Stays (kept self.old) (kept self.new) }
         ensures cause { HasKeepCause (faults self.old) (faults self.new) result }
         ensures telling { TellsAlike (kept self.old) (kept self.new) };
@@ -72,10 +70,8 @@ impl MapKeeper {
 
     /// Damages the object of a name, or takes it away; this is no call that could fail by the plan.
     pub fn spoil(&mut self, name: u64, bytes: Option<Vec<u8>>) -> Result<(), AllocError>
-        ensures ok {
-            OnOk result (objects_of (λ b. b.items) self.new.objects.entries
-                ≡ spoiled name (option_map (λ b. b.items) bytes) (objects_of (λ b. b.items) self.old.objects.entries))
-        }
+        ensures ok { OnOk result (objects_of (λ b. b.items) self.new.objects.entries
+            ≡ spoiled name (option_map (λ b. b.items) bytes) (objects_of (λ b. b.items) self.old.objects.entries)) }
         ensures err { OnErr result (self.new.objects.entries ≡ self.old.objects.entries) }
         ensures plan { self.new.plan ≡ self.old.plan }
     {
@@ -98,19 +94,15 @@ impl Keeper for MapKeeper {
     ghost faults = { λ keeper. keeper.plan.faults };
 
     fn put(&mut self, name: u64, bytes: &[u8]) -> Result<(), KeepError>
-        ensures objects {
-            Changes
-                (Some (objects_of (λ b. b.items) self.old.objects.entries))
-                (Some (objects_of (λ b. b.items) self.new.objects.entries))
-                result (λ objects. fin.insert objects name bytes.now)
-        }
+        ensures objects { Changes
+            (Some (objects_of (λ b. b.items) self.old.objects.entries))
+            (Some (objects_of (λ b. b.items) self.new.objects.entries))
+            result (λ objects. fin.insert objects name bytes.now) }
         ensures unchanged { OnErr result (self.new.objects.entries ≡ self.old.objects.entries) }
         ensures cause { HasKeepCause self.old.plan.faults self.new.plan.faults result }
-        ensures telling {
-            TellsAlike
-                (Some (objects_of (λ b. b.items) self.old.objects.entries))
-                (Some (objects_of (λ b. b.items) self.new.objects.entries))
-        }
+        ensures telling { TellsAlike
+            (Some (objects_of (λ b. b.items) self.old.objects.entries))
+            (Some (objects_of (λ b. b.items) self.new.objects.entries)) }
         ensures planned { (result ≡ Err KeepError.Failed) ↔ IsTrue (is_planned self.old.plan) }
         ensures counts { Counts self.old.plan self.new.plan (is_planned self.old.plan) }
         ensures unfailing { self.old.plan.failing.items ≡ [] → result ≢ Err KeepError.Failed }
@@ -128,23 +120,17 @@ impl Keeper for MapKeeper {
     }
 
     fn get(&mut self, name: u64) -> Result<Option<Vec<u8>>, KeepError>
-        ensures found {
-            WhereTold
-                (Some (objects_of (λ b. b.items) self.old.objects.entries))
-                (Some (objects_of (λ b. b.items) self.new.objects.entries))
-                (λ objects _. IfOk result (λ bytes. option_map (λ b. b.items) bytes ≡ fin.get objects name))
-        }
-        ensures objects {
-            Stays
-                (Some (objects_of (λ b. b.items) self.old.objects.entries))
-                (Some (objects_of (λ b. b.items) self.new.objects.entries))
-        }
+        ensures found { WhereTold
+            (Some (objects_of (λ b. b.items) self.old.objects.entries))
+            (Some (objects_of (λ b. b.items) self.new.objects.entries))
+            (λ objects _. IfOk result (λ bytes. option_map (λ b. b.items) bytes ≡ fin.get objects name)) }
+        ensures objects { Stays
+            (Some (objects_of (λ b. b.items) self.old.objects.entries))
+            (Some (objects_of (λ b. b.items) self.new.objects.entries)) }
         ensures cause { HasKeepCause self.old.plan.faults self.new.plan.faults result }
-        ensures telling {
-            TellsAlike
-                (Some (objects_of (λ b. b.items) self.old.objects.entries))
-                (Some (objects_of (λ b. b.items) self.new.objects.entries))
-        }
+        ensures telling { TellsAlike
+            (Some (objects_of (λ b. b.items) self.old.objects.entries))
+            (Some (objects_of (λ b. b.items) self.new.objects.entries)) }
         ensures planned { (result ≡ Err KeepError.Failed) ↔ IsTrue (is_planned self.old.plan) }
         ensures counts { Counts self.old.plan self.new.plan (is_planned self.old.plan) }
         ensures unfailing { self.old.plan.failing.items ≡ [] → result ≢ Err KeepError.Failed }
@@ -162,19 +148,15 @@ impl Keeper for MapKeeper {
     }
 
     fn remove(&mut self, name: u64) -> Result<(), KeepError>
-        ensures objects {
-            Changes
-                (Some (objects_of (λ b. b.items) self.old.objects.entries))
-                (Some (objects_of (λ b. b.items) self.new.objects.entries))
-                result (λ objects. fin.remove objects name)
-        }
+        ensures objects { Changes
+            (Some (objects_of (λ b. b.items) self.old.objects.entries))
+            (Some (objects_of (λ b. b.items) self.new.objects.entries))
+            result (λ objects. fin.remove objects name) }
         ensures unchanged { OnErr result (self.new.objects.entries ≡ self.old.objects.entries) }
         ensures cause { HasKeepCause self.old.plan.faults self.new.plan.faults result }
-        ensures telling {
-            TellsAlike
-                (Some (objects_of (λ b. b.items) self.old.objects.entries))
-                (Some (objects_of (λ b. b.items) self.new.objects.entries))
-        }
+        ensures telling { TellsAlike
+            (Some (objects_of (λ b. b.items) self.old.objects.entries))
+            (Some (objects_of (λ b. b.items) self.new.objects.entries)) }
         ensures planned { (result ≡ Err KeepError.Failed) ↔ IsTrue (is_planned self.old.plan) }
         ensures counts { Counts self.old.plan self.new.plan (is_planned self.old.plan) }
         ensures unfailing { self.old.plan.failing.items ≡ [] → result ≢ Err KeepError.Failed }

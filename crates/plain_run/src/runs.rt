@@ -119,9 +119,11 @@ impl PlainRun {
     fn write(&mut self, now: u64, write: Write) -> Result<Answer, Memory>
         requires later { (plain_of self.old).clock ≤ now }
         requires room { now + 3 < 2 ^ 64 }
-        ensures serves { IfOk result (λ answer. (start : Start) → Serves start (plain_of self.old) (alone (asks.Write write)) answer (plain_of self.new)) }
+        ensures serves { IfOk result (λ answer. (start : Start) →
+            Serves start (plain_of self.old) (alone (asks.Write write)) answer (plain_of self.new)) }
         ensures moments { IfOk result (λ answer. AllByRecursion (λ n. now ≤ n) (drawn answer)) }
-        ensures fits { (collection : Collection) → IsLogOf collection (plain_of self.old).log → FitsWrite collection write → IsLogOf collection (plain_of self.new).log }
+        ensures fits { (collection : Collection) → IsLogOf collection (plain_of self.old).log →
+            FitsWrite collection write → IsLogOf collection (plain_of self.new).log }
         ensures numbers { (plain_of self.new).clock ≤ now + 3 }
         ensures err { OnErr result (plain_of self.new ≡ plain_of self.old) }
     {
@@ -146,7 +148,8 @@ impl PlainRun {
         requires fits { FitsQuery collection.now query.now }
         requires later { (plain_of self.old).clock ≤ now }
         requires room { now + 3 < 2 ^ 64 }
-        ensures serves { IfOk result (λ answer. (wait : Bool) → Serves (start_of collection.now) (plain_of self.old) (alone (asks.Search query.now level wait)) answer (plain_of self.new)) }
+        ensures serves { IfOk result (λ answer. (wait : Bool) →
+            Serves (start_of collection.now) (plain_of self.old) (alone (asks.Search query.now level wait)) answer (plain_of self.new)) }
         ensures moments { IfOk result (λ answer. AllByRecursion (λ n. now ≤ n) (drawn answer)) }
         ensures log { (plain_of self.new).log ≡ (plain_of self.old).log }
         ensures numbers { (plain_of self.new).clock ≤ now + 3 }

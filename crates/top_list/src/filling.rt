@@ -91,7 +91,8 @@ impl Gather {
     /// The greatest Hamming distance, in bits, that may still be kept; `u32::MAX` where any may.
     pub fn limit(&self) -> u32
         ensures own { self.now.hits ≡ least self.now.k self.now.hits }
-        ensures far { (d : ℕ) (key : ℤ) → result < d → d < 2 ^ 32 → least self.now.k (self.now.hits ++ record { distance = Hamming d; key = record { 0 = key } } ∷ []) ≡ self.now.hits }
+        ensures far { (d : ℕ) (key : ℤ) → result < d → d < 2 ^ 32 →
+            least self.now.k (self.now.hits ++ record { distance = Hamming d; key = record { 0 = key } } ∷ []) ≡ self.now.hits }
     {
         match self.last {
             Some(last) => reach(last.distance),

@@ -1,0 +1,5 @@
+mod Columns
+mod KeyMaps
+mod KeyOrder
+mod SlotLaws
+mod TailLaws

@@ -1,0 +1,4 @@
+pub mod SegmentLaws
+pub mod RowLaws
+pub mod HomeLaws
+pub mod KeptLaws

@@ -1,0 +1,6 @@
+pub mod ColumnSteps
+pub mod ColumnLaws
+pub mod LogLaws
+pub mod WordLaws
+pub mod MarkLaws
+pub mod SealLaws

@@ -1,0 +1,4 @@
+pub mod Segments
+pub mod Marks
+pub mod Parts
+pub mod Fields
