@@ -1,0 +1,6 @@
+pub mod Members
+pub mod Values
+pub mod Shows
+pub mod Unions
+pub mod Wholes
+pub mod Worked
