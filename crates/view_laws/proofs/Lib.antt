@@ -1,4 +1,5 @@
 pub mod Members
+pub mod Seen
 pub mod Values
 pub mod Shows
 pub mod Unions

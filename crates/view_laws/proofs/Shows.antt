@@ -54,6 +54,10 @@ pub looked_scan : (channel : Channel) (s : State) (more : List Note) (t : ℕ) (
 looked_scan channel s more t plan query sound journal =
     view_scan (s.notes ++ more) (view_of channel s.floor s.notes) t plan query (look_stays channel s more sound journal)
 
+pub is_live : (notes : List Note) (view : View) (t : ℕ) (row : Row) → ShowsLive notes view → view.floor ≤ t → t ≤ view.tick
+    → IsSeen view t row → fin.get (live (log_of notes) t) row.key.0 ≡ Some row
+is_live notes view t row shows low high = (shows t low high row).0
+
 -- a key that no visible row has is not live
 pub not_live : (notes : List Note) (view : View) (t : ℕ) (key : ℤ) → ShowsLive notes view → view.floor ≤ t → t ≤ view.tick
     → ((row : Row) → IsSeen view t row → row.key.0 ≢ key) → fin.get (live (log_of notes) t) key ≡ None

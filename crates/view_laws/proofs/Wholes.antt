@@ -1,6 +1,6 @@
 -- The scans of channels make the scan of the whole.
 use Rattle.std.proofs.Common.{◌≡◌, ◌≢◌, ℕ, ℤ, ◌+◌, ◌<◌, ◌≤◌, Bool, true, false, cond, List, [], ◌∷◌, ◌++◌, map, Some, None, refl, sym, ap, subst, ◌∙◌, inl, inr, ◌⊎◌, ⊎_elim, arith, append-nil, eqb-true, eq-eqb}
-use Rattle.std.specs.Prelude.{nat_eq}
+use Rattle.std.specs.Prelude.{nat_eq, slice_get, zero, suc}
 use Rattle.std.specs.List.{filter, AllByRecursion}
 use Rattle.std.specs.Ordering.{int_eq}
 use Rattle.std.specs.FinMap as fin
@@ -37,6 +37,9 @@ log_rises (entry ∷ log) h = (each_implied _ _ (λ later b. not_later entry lat
 
 same_nat : (m n : ℕ) → nat_eq m n ≡ false → m ≢ n
 same_nat m n e h = let t : nat_eq m n ≡ true = eq-eqb m n h in absurd (false≢true (sym e ∙ t))
+
+same_log : (x y : List Entry) → Some x ≡ Some y → x ≡ y
+same_log x y e = cc
 
 module _ (home : ℤ → ℕ) (key : ℤ) where
   other_none : (c : ℕ) (log : List Entry) → home key ≢ c → IsOfChannel home c log → of_key key log ≡ []
@@ -88,6 +91,15 @@ module _ (home : ℤ → ℕ) (key : ℤ) where
           ⊎_elim (λ e. inr (e ∙ behind_none (first + 1) logs (omega arith) of_these.1)) (λ e. inr e) g
       go false t (inl e) = inr (ap (of_key key) e ∙ other_none first l (same_nat (home key) first t) of_these.0)
       go false t (inr g) = ⊎_elim (λ e. inl (e ∙ sym (rest_only first l logs (same_nat (home key) first t) of_these.0))) (λ e. inr e) g
+
+  -- the log of the key's channel has them
+  owner : (first i : ℕ) (logs : List (List Entry)) (log : List Entry) → home key ≡ first + i → AreOfChannelsFrom home first logs → slice_get logs i ≡ Some log
+      → of_key key log ≡ of_key key (joined logs)
+  owner first i [] log e of_these g = absurd cc
+  owner first zero (l ∷ logs) log e of_these g =
+      subst (λ z. of_key key z ≡ of_key key (joined (l ∷ logs))) (same_log l log g) (sym (first_only first l logs (omega arith) of_these.1))
+  owner first (suc i) (l ∷ logs) log e of_these g =
+      owner (first + 1) i logs log (omega arith) of_these.1 g ∙ sym (rest_only first l logs (λ h. omega arith) of_these.0)
 
   -- the union by timestamp has the same entries of each key
   pub whole_of_key : (logs : List (List Entry)) → AreOfChannels home logs → AllByRecursion IsLog logs → of_key key (whole logs) ≡ of_key key (joined logs)
@@ -143,6 +155,12 @@ whole_log home logs of_these lawful =
     (λ o. subst IsLog o.2 (filter_log (λ entry. int_eq key (key_of entry.write)) o.0 (all_in IsLog logs o.0 lawful o.1)))
     (λ e. subst IsLog (sym e) tt)
     (picked home key 0 logs of_these)))
+
+-- the live row of a key in the whole is that of its channel's log
+pub whole_row : (home : ℤ → ℕ) (logs : List (List Entry)) (log : List Entry) (t : ℕ) (key : ℤ) → AreOfChannels home logs → AllByRecursion IsLog logs
+    → slice_get logs (home key) ≡ Some log → fin.get (live (whole logs) t) key ≡ fin.get (live log t) key
+whole_row home logs log t key of_these lawful g =
+    get_same key (whole logs) log t (whole_of_key home key logs of_these lawful ∙ sym (owner home key 0 (home key) logs log (omega arith) of_these g))
 
 none_some : (row : Row) → None ≡ Some row → ⊥
 none_some row e = cc

@@ -15,7 +15,8 @@ use Rattle.journal_model.specs.Layouts.{Channel, layout_of}
 use Rattle.journal_model.specs.Lists.{IsIn}
 use Rattle.journal_model.specs.Views.{view_of}
 use Rattle.view_laws.specs.Found.{found_in}
-use Rattle.view_laws.specs.Examples.{small, by_bits, nearest, hit}
+use Rattle.view_laws.specs.Wholes.{AreOfChannels, whole}
+use Rattle.view_laws.specs.Examples.{small, by_bits, nearest, hit, channel_of, two_logs, put, removed}
 use Rattle.view_laws.proofs.Members.{least-members}
 
 rises_none : IsStrictlySortedBy hit_cmp []
@@ -80,3 +81,9 @@ nearest_one = least_twice 1
 
 pub at_death : found_in small 5 by_bits (nearest 3) ≡ hit 0 2 ∷ []
 at_death = least_doubled 3
+
+pub keys : AreOfChannels channel_of two_logs
+keys = ((refl, (refl, tt)), ((refl, (refl, tt)), tt))
+
+pub union : whole two_logs ≡ put 2 1 ∷ put 2 2 ∷ put 3 2 ∷ removed 4 1 ∷ []
+union = refl

@@ -1,9 +1,12 @@
--- A small view, which the laws on examples speak of.
-use Rattle.std.specs.Prelude.{ℕ, ℤ, pos, Bool, true, false, List, [], ◌∷◌, Option, Some, None}
+-- A small view and the logs of two channels, which the laws on examples speak of.
+use Rattle.std.specs.Prelude.{ℕ, ℤ, pos, Bool, true, false, if◌then◌else◌, List, [], ◌∷◌, Option, Some, None}
+use Rattle.std.specs.Ordering.{int_eq}
 use Rattle.row_types.specs.declared.rows.Row.{Row}
 use Rattle.row_types.specs.declared.hits.Hit.{Hit}
 use Rattle.row_types.specs.declared.hits.Metric.TheVariants as metrics
 use Rattle.row_types.specs.declared.hits.Distance.TheVariants.{Hamming}
+use Rattle.log_model.specs.declared.logs.Entry.{Entry}
+use Rattle.log_model.specs.declared.logs.Write.TheVariants.{Upsert, Delete}
 use Rattle.log_model.specs.declared.queries.Query.{Query}
 use Rattle.log_model.specs.declared.queries.Plan.{Plan}
 use Rattle.journal_model.specs.Views.{Shown, View}
@@ -33,3 +36,18 @@ nearest k = record { vector = true ∷ true ∷ []; k = k; filter = None }
 
 abbrev pub hit : ℕ → ℕ → Hit
 hit distance key = record { distance = Hamming distance; key = record { 0 = pos key } }
+
+-- ---- two channels
+
+-- key 2 belongs to channel 1, and each other key to channel 0
+abbrev pub channel_of : ℤ → ℕ
+channel_of key = if int_eq key (pos 2) then 1 else 0
+
+abbrev pub put : ℕ → ℕ → Entry
+put ts key = record { ts = record { 0 = ts }; write = Upsert (row key (true ∷ [])) }
+
+abbrev pub removed : ℕ → ℕ → Entry
+removed ts key = record { ts = record { 0 = ts }; write = Delete (record { 0 = pos key }) }
+
+abbrev pub two_logs : List (List Entry)
+two_logs = (put 2 1 ∷ removed 4 1 ∷ []) ∷ (put 2 2 ∷ put 3 2 ∷ []) ∷ []

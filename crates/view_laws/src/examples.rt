@@ -7,7 +7,8 @@ ghost use Rattle.log_model.specs.Scans.{scan};
 ghost use Rattle.journal_model.specs.Layouts.{Channel};
 ghost use Rattle.journal_model.specs.Views.{view_of};
 ghost use Rattle.view_laws.specs.Found.{found_in};
-ghost use Rattle.view_laws.specs.Examples.{small, by_bits, nearest, hit};
+ghost use Rattle.view_laws.specs.Wholes.{AreOfChannels, whole};
+ghost use Rattle.view_laws.specs.Examples.{small, by_bits, nearest, hit, channel_of, two_logs, put, removed};
 
 /// Nothing is found in the view of an empty journal, as in an empty log. In a small view a row is found
 /// from its put on and until its death, and once, though it stands at two places. This call does nothing.
@@ -19,4 +20,10 @@ pub fn small_views()
     ensures both { found_in small 4 by_bits (nearest 3) ≡ hit 0 2 ∷ hit 1 1 ∷ [] }
     ensures nearest_one { found_in small 4 by_bits (nearest 1) ≡ hit 0 2 ∷ [] }
     ensures at_death { found_in small 5 by_bits (nearest 3) ≡ hit 0 2 ∷ [] }
+{}
+
+/// The whole of two channels' logs: by timestamp, and at one timestamp by channel. This call does nothing.
+pub fn two_channels()
+    ensures keys { AreOfChannels channel_of two_logs }
+    ensures union { whole two_logs ≡ put 2 1 ∷ put 2 2 ∷ put 3 2 ∷ removed 4 1 ∷ [] }
 {}

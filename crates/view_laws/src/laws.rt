@@ -1,6 +1,6 @@
 //! The laws of searches in views. These calls do nothing.
 
-ghost use Rattle.std.specs.Prelude.{◌≡◌, ◌≢◌, ◌↔◌, Option, Some, None, ◌≤◌, ◌++◌, ℕ, ℤ, List, map};
+ghost use Rattle.std.specs.Prelude.{◌≡◌, ◌≢◌, ◌↔◌, Option, Some, None, ◌≤◌, ◌++◌, ℕ, ℤ, List, map, slice_get};
 ghost use Rattle.std.specs.List.{AllByRecursion};
 ghost use Rattle.std.specs.FinMap as fin;
 ghost use Rattle.row_types.specs.declared.rows.Row.{Row};
@@ -20,12 +20,15 @@ ghost use Rattle.journal_model.specs.Runs.{State, IsSound};
 ghost use Rattle.view_laws.specs.Found.{found_in};
 ghost use Rattle.view_laws.specs.Wholes.{of_key, whole, AreOfChannels, Looked, log_at_end, ServesAt};
 
-/// What is found in a view that shows the live rows, from its floor to its tick, is the scan of the log,
-/// and a key that no visible row has is not live. An exact view shows the live rows of each journal
-/// that extends its own. Neither the order of the parts nor doubles count.
+/// What is found in a view that shows the live rows, from its floor to its tick, is the scan of the log;
+/// a visible row is the live row of its key, and a key that no visible row has is not live. An exact
+/// view shows the live rows of each journal that extends its own. Neither the order of the parts nor
+/// doubles count.
 pub fn views()
     ensures shown { (notes : List Note) (view : View) (t : ℕ) (plan : Plan) (query : Query) → ShowsLive notes view → view.floor ≤ t → t ≤ view.tick
         → found_in view t plan query ≡ scan (log_of notes) t plan query }
+    ensures present { (notes : List Note) (view : View) (t : ℕ) (row : Row) → ShowsLive notes view → view.floor ≤ t → t ≤ view.tick
+        → IsSeen view t row → fin.get (live (log_of notes) t) row.key.0 ≡ Some row }
     ensures absent { (notes : List Note) (view : View) (t : ℕ) (key : ℤ) → ShowsLive notes view → view.floor ≤ t → t ≤ view.tick
         → ((row : Row) → IsSeen view t row → row.key.0 ≢ key) → fin.get (live (log_of notes) t) key ≡ None }
     ensures stays { (notes more : List Note) (view : View) → IsExact notes view → IsJournal (notes ++ more) → ShowsLive (notes ++ more) view }
@@ -45,13 +48,15 @@ pub fn keys()
         → scan log t plan query ≡ scan other t plan query }
 {}
 
-/// The whole of the channels' logs is a log and has the entries of each key as its channel has them. The
-/// k nearest of all that the channels' scans find are the scan of the whole, and so are the k nearest of
+/// The whole of the channels' logs is a log and has the entries of each key as its channel has them, so
+/// the live row of a key is the one of its channel. The k nearest of all that the channels' scans find are the scan of the whole, and so are the k nearest of
 /// all that is found in the channels' views.
 pub fn channels()
     ensures log { (home : ℤ → ℕ) (logs : List (List Entry)) → AreOfChannels home logs → AllByRecursion IsLog logs → IsLog (whole logs) }
     ensures each_key { (home : ℤ → ℕ) (logs : List (List Entry)) → AreOfChannels home logs → AllByRecursion IsLog logs
         → (key : ℤ) → of_key key (whole logs) ≡ of_key key (joined logs) }
+    ensures row { (home : ℤ → ℕ) (logs : List (List Entry)) (log : List Entry) (t : ℕ) (key : ℤ) → AreOfChannels home logs → AllByRecursion IsLog logs
+        → slice_get logs (home key) ≡ Some log → fin.get (live (whole logs) t) key ≡ fin.get (live log t) key }
     ensures cut { (home : ℤ → ℕ) (logs : List (List Entry)) (t : ℕ) (plan : Plan) (query : Query) → AreOfChannels home logs → AllByRecursion IsLog logs
         → least query.k (joined (map (λ log. scan log t plan query) logs)) ≡ scan (whole logs) t plan query }
     ensures looks { (home : ℤ → ℕ) (looks : List Looked) (t : ℕ) (plan : Plan) (query : Query) → AllByRecursion (ServesAt t) looks

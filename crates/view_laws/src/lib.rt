@@ -6,5 +6,5 @@
 mod examples;
 mod laws;
 
-pub use crate::examples::small_views;
+pub use crate::examples::{small_views, two_channels};
 pub use crate::laws::{channels, keys, views};

@@ -1,4 +1,4 @@
-use Rattle.view_laws.proofs.Wholes.{whole_of_key, whole_log, channels_scan, looks_scan}
+use Rattle.view_laws.proofs.Wholes.{whole_of_key, whole_log, whole_row, channels_scan, looks_scan}
 use Rattle.view_laws.proofs.laws.channels.Goals as goal
 
 pub returns-clause-log : goal.returns-clause-log
@@ -12,3 +12,6 @@ returns-clause-cut c = λ home logs t plan query. channels_scan t plan query hom
 
 pub returns-clause-looks : goal.returns-clause-looks
 returns-clause-looks c = λ home looks t plan query. looks_scan t plan query home looks
+
+pub returns-clause-row : goal.returns-clause-row
+returns-clause-row c = whole_row

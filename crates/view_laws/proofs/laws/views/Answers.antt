@@ -1,4 +1,4 @@
-use Rattle.view_laws.proofs.Shows.{view_scan, not_live, exact_stays, exact_scan, looked_scan, members_found}
+use Rattle.view_laws.proofs.Shows.{view_scan, is_live, not_live, exact_stays, exact_scan, looked_scan, members_found}
 use Rattle.view_laws.proofs.laws.views.Goals as goal
 
 pub returns-clause-shown : goal.returns-clause-shown
@@ -18,3 +18,6 @@ returns-clause-looked c = looked_scan
 
 pub returns-clause-members : goal.returns-clause-members
 returns-clause-members c = members_found
+
+pub returns-clause-present : goal.returns-clause-present
+returns-clause-present c = is_live
