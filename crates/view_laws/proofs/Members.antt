@@ -1,6 +1,7 @@
 -- Lists of hits with the same members have the same k least.
-use Rattle.std.proofs.Common.{◌≡◌, ℕ, Bool, true, false, cond, ◌||◌, List, [], ◌∷◌, ◌++◌, map, refl, sym, ap, subst, ◌∙◌, inl, inr, ◌⊎◌, ⊎_elim}
+use Rattle.std.proofs.Common.{◌≡◌, ℕ, Bool, true, false, ◌||◌, List, [], ◌∷◌, ◌++◌, map, refl, sym, ap, subst, ◌∙◌, inl, inr, ◌⊎◌, ⊎_elim}
 use Rattle.std.proofs.lemmas.Cmp.{tied_itself}
+use Rattle.std.proofs.lemmas.List.{map-append}
 use Rattle.std.proofs.lemmas.List.Elements.{filter-append}
 use Rattle.std.specs.Cmp.{both_ways}
 use Rattle.std.specs.List.{filter, list_any}
@@ -78,12 +79,8 @@ module _ (test : Row → Bool) (plan : Plan) (query : Query) where
   found-members rows others f g =
       least-members query.k (hits_found test plan query rows) (hits_found test plan query others) (found_more rows others f) (found_more others rows g)
 
-  map-both : (xs ys : List Row) → map (hit_of plan query) (xs ++ ys) ≡ map (hit_of plan query) xs ++ map (hit_of plan query) ys
-  map-both [] ys = refl
-  map-both (x ∷ xs) ys = ap (λ l. hit_of plan query x ∷ l) (map-both xs ys)
-
   pub found-append : (rows more : List Row) → hits_found test plan query (rows ++ more) ≡ hits_found test plan query rows ++ hits_found test plan query more
-  found-append rows more = ap (map (hit_of plan query)) (filter-append test rows more) ∙ map-both (filter test rows) (filter test more)
+  found-append rows more = ap (map (hit_of plan query)) (filter-append test rows more) ∙ map-append (hit_of plan query) (filter test rows) (filter test more)
 
   pub found-joined : (lists : List (List Row)) → joined (map (hits_found test plan query) lists) ≡ hits_found test plan query (joined lists)
   found-joined [] = refl

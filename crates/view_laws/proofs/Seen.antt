@@ -1,8 +1,8 @@
 -- What is seen of rows, one after another: for a search that goes over the rows of parts.
-use Rattle.std.proofs.Common.{◌≡◌, ℕ, Bool, true, false, cond, List, [], ◌∷◌, ◌++◌, map, refl, ap, ◌∙◌}
+use Rattle.std.proofs.Common.{◌≡◌, ℕ, true, false, cond, List, [], ◌∷◌, ◌++◌, map, refl, ap, ◌∙◌}
 use Rattle.std.specs.List.{filter}
+use Rattle.std.proofs.lemmas.List.{map-append}
 use Rattle.std.proofs.lemmas.List.Elements.{filter-append}
-use Rattle.row_types.specs.declared.rows.Row.{Row}
 use Rattle.log_model.specs.declared.queries.Query.{Query}
 use Rattle.log_model.specs.declared.queries.Plan.{Plan}
 use Rattle.log_model.specs.Scans.{passes_filter, hit_of, hits_found}
@@ -10,12 +10,8 @@ use Rattle.journal_model.specs.Views.{Shown, is_visible}
 use Rattle.view_laws.specs.Found.{rows_seen, hits_seen}
 use Rattle.view_laws.proofs.Members.{found-append}
 
-map-rows : (xs ys : List Shown) → map (λ (s : Shown). s.row) (xs ++ ys) ≡ map (λ (s : Shown). s.row) xs ++ map (λ (s : Shown). s.row) ys
-map-rows [] ys = refl
-map-rows (x ∷ xs) ys = ap (λ l. x.row ∷ l) (map-rows xs ys)
-
 pub rows_seen-append : (t : ℕ) (rows more : List Shown) → rows_seen t (rows ++ more) ≡ rows_seen t rows ++ rows_seen t more
-rows_seen-append t rows more = ap (map (λ (s : Shown). s.row)) (filter-append (is_visible t) rows more) ∙ map-rows (filter (is_visible t) rows) (filter (is_visible t) more)
+rows_seen-append t rows more = ap (map (λ (s : Shown). s.row)) (filter-append (is_visible t) rows more) ∙ map-append (λ (s : Shown). s.row) (filter (is_visible t) rows) (filter (is_visible t) more)
 
 module _ (t : ℕ) (plan : Plan) (query : Query) where
   pub hits_seen-append : (rows more : List Shown) → hits_seen t plan query (rows ++ more) ≡ hits_seen t plan query rows ++ hits_seen t plan query more
@@ -24,12 +20,12 @@ module _ (t : ℕ) (plan : Plan) (query : Query) where
       ∙ found-append (passes_filter query.filter) plan query (rows_seen t rows) (rows_seen t more)
 
   -- a row that is not visible
-  pub unseen : (s : Shown) → is_visible t s ≡ false → hits_seen t plan query (s ∷ []) ≡ []
-  unseen s f = ap (λ b. hits_found (passes_filter query.filter) plan query (map (λ (x : Shown). x.row) (cond b (s ∷ []) []))) f
+  pub hidden : (s : Shown) → is_visible t s ≡ false → hits_seen t plan query (s ∷ []) ≡ []
+  hidden s f = ap (λ b. hits_found (passes_filter query.filter) plan query (map (λ (x : Shown). x.row) (cond b (s ∷ []) []))) f
 
   -- a row that does not pass the filter
-  pub not_passed : (s : Shown) → passes_filter query.filter s.row ≡ false → hits_seen t plan query (s ∷ []) ≡ []
-  not_passed s f = elim (is_visible t s) as (λ b. hits_found (passes_filter query.filter) plan query (map (λ (x : Shown). x.row) (cond b (s ∷ []) [])) ≡ []) [
+  pub refused : (s : Shown) → passes_filter query.filter s.row ≡ false → hits_seen t plan query (s ∷ []) ≡ []
+  refused s f = elim (is_visible t s) as (λ b. hits_found (passes_filter query.filter) plan query (map (λ (x : Shown). x.row) (cond b (s ∷ []) [])) ≡ []) [
     | true ↦ ap (λ b. map (hit_of plan query) (cond b (s.row ∷ []) [])) f
     | false ↦ refl
   ]

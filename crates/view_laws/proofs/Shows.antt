@@ -3,7 +3,6 @@ use Rattle.std.proofs.Common.{◌≡◌, ◌≢◌, ◌↔◌, ℕ, ℤ, Option,
 use Rattle.std.specs.List.{filter}
 use Rattle.std.specs.FinMap as fin
 use Rattle.row_types.specs.declared.rows.Row.{Row}
-use Rattle.log_model.specs.declared.logs.Entry.{Entry}
 use Rattle.log_model.specs.declared.queries.Query.{Query}
 use Rattle.log_model.specs.declared.queries.Plan.{Plan}
 use Rattle.log_model.specs.Logs.{live, IsAbove}

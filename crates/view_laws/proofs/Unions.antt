@@ -56,9 +56,9 @@ module _ {X : Type 0} (at : X → ℕ) where
               | true ↦
                   ap (λ l. y ∷ l) rest
                   ∙ elim (p x) as (λ d. y ∷ cond d (insert_by at x (filter p ys)) (filter p ys) ≡ cond d (insert_by at x (y ∷ filter p ys)) (y ∷ filter p ys)) [
-                      | true ↦ ap (λ b. cond b (x ∷ y ∷ filter p ys) (y ∷ insert_by at x (filter p ys))) (sym t)
-                      | false ↦ refl
-                    ]
+                    | true ↦ ap (λ b. cond b (x ∷ y ∷ filter p ys) (y ∷ insert_by at x (filter p ys))) (sym t)
+                    | false ↦ refl
+                  ]
               | false ↦ rest
             ]
       ] refl

@@ -1,18 +1,17 @@
 -- The values of the live rows, and what a key's row depends on.
-use Rattle.std.proofs.Common.{◌≡◌, ◌≢◌, ℕ, ℤ, Bool, true, false, cond, ◌&&◌, List, [], ◌∷◌, ◌++◌, map, Option, Some, None, is_some, refl, sym, ap, subst, ◌∙◌, inl, inr}
+use Rattle.std.proofs.Common.{◌≡◌, ℕ, ℤ, Bool, true, false, cond, List, [], ◌∷◌, map, Option, Some, None, is_some, refl, sym, ap, subst, ◌∙◌, inl, inr}
 use Rattle.std.specs.Prelude.{IfSome}
-use Rattle.std.specs.List.{filter, AllByRecursion}
+use Rattle.std.specs.List.{filter}
 use Rattle.std.specs.Ordering.{int_cmp, int_eq, eq_by_cmp}
 use Rattle.std.specs.FinMap as fin
 use Rattle.std.specs.FinMap.Entries.{find}
 use Rattle.std.proofs.lemmas.Cmp.{int_cmp_total}
-use Rattle.std.proofs.lemmas.Bool.{false_from_ne_true}
 use Rattle.std.proofs.lemmas.Bool.Decides.{Decides-int_eq}
 use Rattle.row_types.specs.declared.rows.Row.{Row}
 use Rattle.log_model.specs.declared.logs.Write.{Write}
 use Rattle.log_model.specs.declared.logs.Write.TheVariants.{Insert, Upsert, Delete}
 use Rattle.log_model.specs.declared.logs.Entry.{Entry}
-use Rattle.log_model.specs.Logs.{Rows, key_of, applied, after, up_to, rows_of, live}
+use Rattle.log_model.specs.Logs.{Rows, key_of, applied, after, up_to, live}
 use Rattle.log_model.proofs.LogLaws.{rows_of-after}
 use Rattle.log_model.proofs.Dimensions.{values_hold}
 use Rattle.journal_model.specs.Lists.{IsIn}
@@ -76,9 +75,9 @@ get_applied key m n (Insert row) same e =
     let there : fin.contains_key m row.key.0 ≡ fin.contains_key n row.key.0 = ap is_some (subst (λ k. fin.get m k ≡ fin.get n k) same e) in
     ap (λ b. fin.get (cond b m (fin.insert m row.key.0 row)) key) there
     ∙ elim (fin.contains_key n row.key.0) as (λ b. fin.get (cond b m (fin.insert m row.key.0 row)) key ≡ fin.get (cond b n (fin.insert n row.key.0 row)) key) [
-        | true ↦ e
-        | false ↦ fin.get-insert int_cmp_total m row.key.0 row key ∙ ap (cond (int_eq key row.key.0) (Some row)) e ∙ sym (fin.get-insert int_cmp_total n row.key.0 row key)
-      ]
+      | true ↦ e
+      | false ↦ fin.get-insert int_cmp_total m row.key.0 row key ∙ ap (cond (int_eq key row.key.0) (Some row)) e ∙ sym (fin.get-insert int_cmp_total n row.key.0 row key)
+    ]
 get_applied key m n (Upsert row) same e = fin.get-insert int_cmp_total m row.key.0 row key ∙ ap (cond (int_eq key row.key.0) (Some row)) e ∙ sym (fin.get-insert int_cmp_total n row.key.0 row key)
 get_applied key m n (Delete k) same e = fin.get-remove int_cmp_total m k.0 key ∙ ap (cond (int_eq key k.0) None) e ∙ sym (fin.get-remove int_cmp_total n k.0 key)
 
@@ -103,13 +102,13 @@ filter-swap p q [] = refl
 filter-swap p q (x ∷ xs) =
     elim (p x) as (λ b. p x ≡ b → filter p (cond (q x) (x ∷ filter q xs) (filter q xs)) ≡ filter q (cond b (x ∷ filter p xs) (filter p xs))) [
       | true ↦ λ t. elim (q x) as (λ c. filter p (cond c (x ∷ filter q xs) (filter q xs)) ≡ cond c (x ∷ filter q (filter p xs)) (filter q (filter p xs))) [
-          | true ↦ ap (λ b. cond b (x ∷ filter p (filter q xs)) (filter p (filter q xs))) t ∙ ap (λ l. x ∷ l) (filter-swap p q xs)
-          | false ↦ filter-swap p q xs
-        ]
+        | true ↦ ap (λ b. cond b (x ∷ filter p (filter q xs)) (filter p (filter q xs))) t ∙ ap (λ l. x ∷ l) (filter-swap p q xs)
+        | false ↦ filter-swap p q xs
+      ]
       | false ↦ λ t. elim (q x) as (λ c. filter p (cond c (x ∷ filter q xs) (filter q xs)) ≡ filter q (filter p xs)) [
-          | true ↦ ap (λ b. cond b (x ∷ filter p (filter q xs)) (filter p (filter q xs))) t ∙ filter-swap p q xs
-          | false ↦ filter-swap p q xs
-        ]
+        | true ↦ ap (λ b. cond b (x ∷ filter p (filter q xs)) (filter p (filter q xs))) t ∙ filter-swap p q xs
+        | false ↦ filter-swap p q xs
+      ]
     ] refl
 
 abbrev kept_of : ℤ → ℕ → List Entry → Option Row

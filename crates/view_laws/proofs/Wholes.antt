@@ -18,7 +18,6 @@ use Rattle.log_model.specs.Scans.{passes_filter, hits_found, scan}
 use Rattle.log_model.proofs.LogLaws.{each_implied, filter-none}
 use Rattle.log_model.proofs.Dimensions.{each-filter}
 use Rattle.journal_model.specs.Lists.{IsIn, joined}
-use Rattle.journal_model.specs.Views.{View}
 use Rattle.journal_model.proofs.ListLaws.{all_in}
 use Rattle.journal_model.proofs.FollowLaws.{journal_log}
 use Rattle.view_laws.specs.Found.{found_in}
@@ -143,9 +142,11 @@ log_by_keys : (log : List Entry) → Rises (λ entry. entry.ts.0) log → ((key 
 log_by_keys [] rises each = tt
 log_by_keys (entry ∷ log) rises each =
     let own : ℤ = key_of entry.write in
-    let first : IsLog (entry ∷ of_key own log) = subst (λ b. IsLog (cond b (entry ∷ of_key own log) (of_key own log))) ((Decides-int_eq own own).1 refl) (each own) in
-    (before_all entry log rises.0 first.0, log_by_keys log rises.1 (λ key.
-    elim (int_eq key own) as (λ b. IsLog (cond b (entry ∷ of_key key log) (of_key key log)) → IsLog (of_key key log)) [ true ↦ λ h. h.1 | false ↦ λ h. h ] (each key)))
+    let first : IsLog (entry ∷ of_key own log) = subst (λ b. IsLog (cond b (entry ∷ of_key own log) (of_key own log))) ((Decides-int_eq own own).1 refl) (each own) in (
+      before_all entry log rises.0 first.0,
+      log_by_keys log rises.1 (λ key.
+          elim (int_eq key own) as (λ b. IsLog (cond b (entry ∷ of_key key log) (of_key key log)) → IsLog (of_key key log)) [ true ↦ λ h. h.1 | false ↦ λ h. h ] (each key)),
+    )
 
 pub whole_log : (home : ℤ → ℕ) (logs : List (List Entry)) → AreOfChannels home logs → AllByRecursion IsLog logs → IsLog (whole logs)
 whole_log home logs of_these lawful =

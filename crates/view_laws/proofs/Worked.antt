@@ -1,5 +1,5 @@
 -- The worked examples: what is found rises, so it is its own k least.
-use Rattle.std.proofs.Common.{◌≡◌, ℕ, List, [], ◌∷◌, take, refl, ap, inl, inr, ◌∙◌}
+use Rattle.std.proofs.Common.{◌≡◌, ℕ, [], ◌∷◌, take, refl, ap, inl, inr, ◌∙◌}
 use Rattle.std.proofs.Math.Seq.{take-nil}
 use Rattle.std.specs.List.Sorted.{IsStrictlySortedBy}
 use Rattle.std.specs.Map.{values_of}
@@ -44,6 +44,7 @@ least_twice k =
     out q (inr (inl e)) = inl e
     out q (inr (inr (inl e))) = inl e
     out q (inr (inr (inr h))) = absurd h
+
     back : (q : Hit) → IsIn q (hit 0 2 ∷ hit 1 1 ∷ []) → IsIn q (hit 1 1 ∷ hit 0 2 ∷ hit 0 2 ∷ [])
     back q (inl e) = inr (inl e)
     back q (inr (inl e)) = inl e
@@ -56,6 +57,7 @@ least_doubled k =
     out : (q : Hit) → IsIn q (hit 0 2 ∷ hit 0 2 ∷ []) → IsIn q (hit 0 2 ∷ [])
     out q (inl e) = inl e
     out q (inr h) = h
+
     back : (q : Hit) → IsIn q (hit 0 2 ∷ []) → IsIn q (hit 0 2 ∷ hit 0 2 ∷ [])
     back q h = inr h
 

@@ -1,6 +1,6 @@
 //! The laws of searches in views. These calls do nothing.
 
-ghost use Rattle.std.specs.Prelude.{◌≡◌, ◌≢◌, ◌↔◌, Option, Some, None, ◌≤◌, ◌++◌, ℕ, ℤ, List, map, slice_get};
+ghost use Rattle.std.specs.Prelude.{◌≡◌, ◌≢◌, ◌↔◌, true, false, Option, Some, None, ◌≤◌, [], ◌∷◌, ◌++◌, ℕ, ℤ, List, map, slice_get};
 ghost use Rattle.std.specs.List.{AllByRecursion};
 ghost use Rattle.std.specs.FinMap as fin;
 ghost use Rattle.row_types.specs.declared.rows.Row.{Row};
@@ -9,16 +9,27 @@ ghost use Rattle.log_model.specs.declared.logs.Entry.{Entry};
 ghost use Rattle.log_model.specs.declared.queries.Query.{Query};
 ghost use Rattle.log_model.specs.declared.queries.Plan.{Plan};
 ghost use Rattle.log_model.specs.Logs.{IsLog, live};
-ghost use Rattle.log_model.specs.Scans.{scan};
+ghost use Rattle.log_model.specs.Scans.{hit_of, passes_filter, scan};
 ghost use Rattle.journal_model.specs.declared.notes.Note.{Note};
 ghost use Rattle.journal_model.specs.Notes.{log_of, tick_of};
 ghost use Rattle.journal_model.specs.Journals.{IsJournal};
 ghost use Rattle.journal_model.specs.Lists.{IsIn, joined};
-ghost use Rattle.journal_model.specs.Views.{Shown, View, IsSeen, IsExact, ShowsLive, view_of};
+ghost use Rattle.journal_model.specs.Views.{Shown, View, is_visible, IsSeen, IsExact, ShowsLive, view_of};
 ghost use Rattle.journal_model.specs.Layouts.{Channel};
 ghost use Rattle.journal_model.specs.Runs.{State, IsSound};
-ghost use Rattle.view_laws.specs.Found.{found_in};
+ghost use Rattle.view_laws.specs.Found.{hits_seen, found_in};
 ghost use Rattle.view_laws.specs.Wholes.{of_key, whole, AreOfChannels, Looked, log_at_end, ServesAt};
+
+/// What is seen of rows, one after another: nothing of a row that is not visible, nothing of one that
+/// does not pass the filter, and each other row as a hit.
+pub fn rows()
+    ensures more { (t : ℕ) (plan : Plan) (query : Query) (rows more : List Shown)
+        → hits_seen t plan query (rows ++ more) ≡ hits_seen t plan query rows ++ hits_seen t plan query more }
+    ensures hidden { (t : ℕ) (plan : Plan) (query : Query) (s : Shown) → is_visible t s ≡ false → hits_seen t plan query (s ∷ []) ≡ [] }
+    ensures refused { (t : ℕ) (plan : Plan) (query : Query) (s : Shown) → passes_filter query.filter s.row ≡ false → hits_seen t plan query (s ∷ []) ≡ [] }
+    ensures offered { (t : ℕ) (plan : Plan) (query : Query) (s : Shown) → is_visible t s ≡ true → passes_filter query.filter s.row ≡ true
+        → hits_seen t plan query (s ∷ []) ≡ hit_of plan query s.row ∷ [] }
+{}
 
 /// What is found in a view that shows the live rows, from its floor to its tick, is the scan of the log;
 /// a visible row is the live row of its key, and a key that no visible row has is not live. An exact
@@ -49,8 +60,8 @@ pub fn keys()
 {}
 
 /// The whole of the channels' logs is a log and has the entries of each key as its channel has them, so
-/// the live row of a key is the one of its channel. The k nearest of all that the channels' scans find are the scan of the whole, and so are the k nearest of
-/// all that is found in the channels' views.
+/// the live row of a key is the one of its channel. The k nearest of all that the channels' scans find
+/// are the scan of the whole, and so are the k nearest of all that is found in the channels' views.
 pub fn channels()
     ensures log { (home : ℤ → ℕ) (logs : List (List Entry)) → AreOfChannels home logs → AllByRecursion IsLog logs → IsLog (whole logs) }
     ensures each_key { (home : ℤ → ℕ) (logs : List (List Entry)) → AreOfChannels home logs → AllByRecursion IsLog logs

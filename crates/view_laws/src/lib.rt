@@ -7,4 +7,4 @@ mod examples;
 mod laws;
 
 pub use crate::examples::{small_views, two_channels};
-pub use crate::laws::{channels, keys, views};
+pub use crate::laws::{channels, keys, rows, views};
