@@ -14,10 +14,11 @@ use Rattle.journal_model.specs.Lists.{IsIn, joined}
 use Rattle.journal_model.specs.Views.{Shown, View, is_visible, IsSeen, ShowsLive, IsExact, view_of}
 use Rattle.journal_model.specs.Layouts.{Channel}
 use Rattle.journal_model.specs.Runs.{State, IsSound}
-use Rattle.journal_model.proofs.RunLaws.{look_stays}
+use Rattle.journal_model.proofs.RunLaws.{look_exact, look_stays}
 use Rattle.journal_model.proofs.ListLaws.{in_map, out_map, in_filter, out_filter}
 use Rattle.journal_model.proofs.ViewLaws.{view_stays, goes_on}
 use Rattle.view_laws.specs.Found.{rows_seen, found_in}
+use Rattle.view_laws.specs.Wholes.{ServesAt}
 use Rattle.view_laws.proofs.Members.{found-members}
 use Rattle.view_laws.proofs.Values.{value_of_get, get_of_value, keyed_live}
 
@@ -78,3 +79,8 @@ members_found view other t plan query same =
     found-members (passes_filter query.filter) plan query (rows_seen t (joined view.parts)) (rows_seen t (joined other.parts))
     (seen_more t (joined view.parts) (joined other.parts) (λ s. (same s).0))
     (seen_more t (joined other.parts) (joined view.parts) (λ s. (same s).1))
+
+-- a look at a sound state
+pub look_serves : (channel : Channel) (s : State) (more : List Note) (t : ℕ) → IsSound channel s → IsJournal (s.notes ++ more) → s.floor ≤ t → t ≤ tick_of s.notes
+    → ServesAt t (record { notes = s.notes; more = more; view = view_of channel s.floor s.notes })
+look_serves channel s more t sound journal low high = record { exact = look_exact channel s sound; journal = journal; from_floor = low; to_tick = high }

@@ -1,6 +1,8 @@
 -- The worked examples: what is found rises, so it is its own k least.
-use Rattle.std.proofs.Common.{◌≡◌, ℕ, [], ◌∷◌, take, refl, ap, inl, inr, ◌∙◌}
+use Rattle.std.proofs.Common.{◌≡◌, ℕ, pos, true, [], ◌∷◌, take, refl, ap, inl, inr, ◌∙◌, Some, None}
 use Rattle.std.proofs.Math.Seq.{take-nil}
+use Rattle.std.proofs.lemmas.Cmp.{int_cmp_total}
+use Rattle.std.specs.FinMap as fin
 use Rattle.std.specs.List.Sorted.{IsStrictlySortedBy}
 use Rattle.std.specs.Map.{values_of}
 use Rattle.row_types.specs.declared.hits.Hit.{Hit}
@@ -8,7 +10,7 @@ use Rattle.row_types.specs.Hits.{hit_cmp, least}
 use Rattle.row_types.proofs.Least.{least-of_rising}
 use Rattle.log_model.specs.declared.queries.Query.{Query}
 use Rattle.log_model.specs.declared.queries.Plan.{Plan}
-use Rattle.log_model.specs.Logs.{rows_of}
+use Rattle.log_model.specs.Logs.{rows_of, live}
 use Rattle.log_model.specs.Scans.{passes_filter, hits_found, scan}
 use Rattle.log_model.proofs.Reached.{entries-empty}
 use Rattle.journal_model.specs.Layouts.{Channel, layout_of}
@@ -16,7 +18,7 @@ use Rattle.journal_model.specs.Lists.{IsIn}
 use Rattle.journal_model.specs.Views.{view_of}
 use Rattle.view_laws.specs.Found.{found_in}
 use Rattle.view_laws.specs.Wholes.{AreOfChannels, whole}
-use Rattle.view_laws.specs.Examples.{small, by_bits, nearest, hit, channel_of, two_logs, put, removed}
+use Rattle.view_laws.specs.Examples.{row, small, by_bits, nearest, hit, channel_of, two_logs, sharing_logs, put, removed}
 use Rattle.view_laws.proofs.Members.{least-members}
 
 rises_none : IsStrictlySortedBy hit_cmp []
@@ -89,3 +91,11 @@ keys = ((refl, (refl, tt)), ((refl, (refl, tt)), tt))
 
 pub union : whole two_logs ≡ put 2 1 ∷ put 2 2 ∷ put 3 2 ∷ removed 4 1 ∷ []
 union = refl
+
+pub shared_here : fin.get (live (put 1 1 ∷ []) 2) (pos 1) ≡ Some (row 1 (true ∷ []))
+unfolding rows_of
+shared_here = fin.get-insert int_cmp_total fin.empty (pos 1) (row 1 (true ∷ [])) (pos 1)
+
+pub shared_gone : fin.get (live (whole sharing_logs) 2) (pos 1) ≡ None
+unfolding rows_of
+shared_gone = fin.get-remove int_cmp_total (fin.insert fin.empty (pos 1) (row 1 (true ∷ []))) (pos 1) (pos 1)

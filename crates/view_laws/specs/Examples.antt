@@ -51,3 +51,7 @@ removed ts key = record { ts = record { 0 = ts }; write = Delete (record { 0 = p
 
 abbrev pub two_logs : List (List Entry)
 two_logs = (put 2 1 ∷ removed 4 1 ∷ []) ∷ (put 2 2 ∷ put 3 2 ∷ []) ∷ []
+
+-- the logs of two channels that share a key
+abbrev pub sharing_logs : List (List Entry)
+sharing_logs = (put 1 1 ∷ []) ∷ (removed 2 1 ∷ []) ∷ []

@@ -61,7 +61,8 @@ pub fn keys()
 
 /// The whole of the channels' logs is a log and has the entries of each key as its channel has them, so
 /// the live row of a key is the one of its channel. The k nearest of all that the channels' scans find
-/// are the scan of the whole, and so are the k nearest of all that is found in the channels' views.
+/// are the scan of the whole, and so are the k nearest of all that is found in the channels' views. A look
+/// at a sound state serves each timestamp from its floor to its tick.
 pub fn channels()
     ensures log { (home : ℤ → ℕ) (logs : List (List Entry)) → AreOfChannels home logs → AllByRecursion IsLog logs → IsLog (whole logs) }
     ensures each_key { (home : ℤ → ℕ) (logs : List (List Entry)) → AreOfChannels home logs → AllByRecursion IsLog logs
@@ -70,6 +71,8 @@ pub fn channels()
         → slice_get logs (home key) ≡ Some log → fin.get (live (whole logs) t) key ≡ fin.get (live log t) key }
     ensures cut { (home : ℤ → ℕ) (logs : List (List Entry)) (t : ℕ) (plan : Plan) (query : Query) → AreOfChannels home logs → AllByRecursion IsLog logs
         → least query.k (joined (map (λ log. scan log t plan query) logs)) ≡ scan (whole logs) t plan query }
+    ensures serves { (channel : Channel) (s : State) (more : List Note) (t : ℕ) → IsSound channel s → IsJournal (s.notes ++ more)
+        → s.floor ≤ t → t ≤ tick_of s.notes → ServesAt t (record { notes = s.notes; more = more; view = view_of channel s.floor s.notes }) }
     ensures looks { (home : ℤ → ℕ) (looks : List Looked) (t : ℕ) (plan : Plan) (query : Query) → AllByRecursion (ServesAt t) looks
         → AreOfChannels home (map log_at_end looks)
         → least query.k (joined (map (λ l. found_in l.view t plan query) looks)) ≡ scan (whole (map log_at_end looks)) t plan query }

@@ -1,3 +1,4 @@
+use Rattle.view_laws.proofs.Shows.{look_serves}
 use Rattle.view_laws.proofs.Wholes.{whole_of_key, whole_log, whole_row, channels_scan, looks_scan}
 use Rattle.view_laws.proofs.laws.channels.Goals as goal
 
@@ -15,3 +16,6 @@ returns-clause-looks c = λ home looks t plan query. looks_scan t plan query hom
 
 pub returns-clause-row : goal.returns-clause-row
 returns-clause-row c = whole_row
+
+pub returns-clause-serves : goal.returns-clause-serves
+returns-clause-serves c = look_serves
