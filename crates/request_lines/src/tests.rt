@@ -366,7 +366,7 @@ fn what_is_one_longer_than_the_limit_is_refused(rt: HostRuntime) -> Result<(), F
             read_line(rt.alloc(), good.as_bytes(), &collection).is_ok(),
             "at {before}"
         );
-        let long = line_of(rt.alloc(), before, piece, most + 1, after)?;
+        let long = line_of(rt.alloc(), before, piece, most.saturating_add(1), after)?;
         let refusal = read_line(rt.alloc(), long.as_bytes(), &collection).err();
         assert_eq!(rt; refusal, Some(LineError::Refused(want)), "at {before}");
     }
