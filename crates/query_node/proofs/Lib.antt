@@ -1,3 +1,0 @@
-pub mod Getting
-pub mod Reading
-pub mod Differing
