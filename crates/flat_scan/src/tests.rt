@@ -1,0 +1,1 @@
+//! A small part, scanned at several timestamps.
