@@ -136,7 +136,7 @@ module _ (ts : ℕ) (plan : Plan) (query : Query) where
   pub offered_found : (s : Shown) (old next : Kept) (hit : Hit) (visible passes : Bool) → visible ≡ is_visible ts s → visible ≡ true → passes ≡ passes_filter query.filter s.row → passes ≡ true
       → hit ≡ hit_of plan query s.row → next.k ≡ old.k → next.hits ≡ least old.k (old.hits ++ hit ∷ []) → Offered old next (visible_hits ts plan query (s ∷ []))
   offered_found s old next hit visible passes is e that f same k hits =
-      subst (Offered old next) (sym (found s (sym is ∙ e) (sym that ∙ f)) ) (record { k = k; hits = hits ∙ ap (λ h. least old.k (old.hits ++ h ∷ [])) same })
+      subst (Offered old next) (sym (found s (sym is ∙ e) (sym that ∙ f))) (record { k = k; hits = hits ∙ ap (λ h. least old.k (old.hits ++ h ∷ [])) same })
 
   after_bar : (old : Kept) (bar : Option Hit) (hit : Hit) → IfSome bar (IsBehindAll old) → is_after bar hit ≡ true → least old.k (old.hits ++ hit ∷ []) ≡ old.hits
   after_bar old None hit h e = absurd (false≢true e)
@@ -165,5 +165,5 @@ module _ (ts : ℕ) (plan : Plan) (query : Query) where
       let seen : Offered old old (hit ∷ []) = record { k = refl; hits = sym (after_bar old bar hit behind after) } in
       let unseen : Offered old old [] = Offered-none old own in
       let tested : Offered old old (map (hit_of plan query) (cond (passes_filter query.filter s.row) (s.row ∷ []) [])) =
-          elim (passes_filter query.filter s.row) as (λ b. Offered old old (map (hit_of plan query) (cond b (s.row ∷ []) []))) [ true ↦ seen | false ↦ unseen ] in
+      elim (passes_filter query.filter s.row) as (λ b. Offered old old (map (hit_of plan query) (cond b (s.row ∷ []) []))) [ true ↦ seen | false ↦ unseen ] in
       elim (is_visible ts s) as (λ b. Offered old old (map (hit_of plan query) (filter (passes_filter query.filter) (map row_of (cond b (s ∷ []) []))))) [ true ↦ tested | false ↦ unseen ]

@@ -10,6 +10,3 @@ mod measures;
 mod scans;
 
 pub use crate::scans::scan;
-
-#[cfg(test)]
-mod tests;

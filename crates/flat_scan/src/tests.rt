@@ -1,1 +1,0 @@
-//! A small part, scanned at several timestamps.
