@@ -1,6 +1,6 @@
 //! The rows that a merge keeps, gathered from parts.
 
-ghost use Rattle.std.specs.Prelude.{◌≡◌, ◌<◌, ◌≤◌, ◌++◌, Some, length, map, not, slice_get, IfOk, OnOk};
+ghost use Rattle.std.specs.Prelude.{◌≡◌, ◌<◌, ◌≤◌, ◌++◌, Some, length, map, not, slice_get, vec_len, ◌^◌, IfOk, OnOk};
 ghost use Rattle.std.specs.Option.{option_map};
 ghost use Rattle.journal_model.specs.Puts.{is_dead_by};
 ghost use Rattle.std.specs.List.{AllByRecursion, filter};
@@ -8,7 +8,7 @@ ghost use Rattle.journal_model.specs.Lists.{joined};
 ghost use Rattle.seg_sealed.specs.Segments.{IsSealed};
 ghost use Rattle.seg_sealed.specs.Parts.{SegmentPart, shown_rows, kept_rows};
 ghost use Rattle.seg_merge.specs.Merges.{AreInOrder, all_rows};
-ghost use Rattle.seg_merge.specs.Kept.{shown_of, number_in, outlives, marks_from};
+ghost use Rattle.seg_merge.specs.Kept.{shown_of, number_in, outlives, mark_at, marks_from};
 
 use hybrid_time::Timestamp;
 use log_model::{SharedRow, TailRow, TailRows};
@@ -28,6 +28,7 @@ pub(crate) struct Kept {
 #[derive(Drop)]
 pub(crate) struct KeptRows {
     pub(crate) kept: Vec<Kept>,
+    ghost few: { vec_len kept < 2 ^ 32 },
 }
 
 impl TailRows for KeptRows {
@@ -125,9 +126,20 @@ pub(crate) fn marks_of(alloc: Global, kept: &[Kept]) -> Result<Vec<(u32, Timesta
 {
     let mut marks = Vec::new(alloc);
     'rows: for i in 0..kept.len() {
-        if let Some(ts) = kept[i].mark {
-            marks.push((i as u32, ts))?;
-        }
+        push_mark(&mut marks, i as u32, &kept[i])?;
     }
     Ok(marks)
+}
+
+fn push_mark(
+    marks: &mut Vec<(u32, Timestamp)>,
+    row: u32,
+    kept: &Kept,
+) -> Result<(), Memory>
+    ensures { OnOk result (marks.new.items ≡ marks.old.items ++ mark_at row kept.now.mark) }
+{
+    if let Some(ts) = kept.mark {
+        marks.push((row, ts))?;
+    }
+    Ok(())
 }

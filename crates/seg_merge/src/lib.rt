@@ -7,7 +7,5 @@
 
 mod kept;
 mod merging;
-#[cfg(test)]
-mod tests;
 
 pub use crate::merging::merge;

@@ -5,7 +5,8 @@ ghost use Rattle.std.specs.Option.{IfSome};
 ghost use Rattle.seg_sealed.specs.Segments.{IsSealed, sealed_rows};
 ghost use Rattle.seg_sealed.specs.Parts.{kept_rows, shown_rows, IsMerged};
 ghost use Rattle.seg_merge.specs.Merges.{AreAlike, AreInOrder, all_rows, applied_in};
-ghost use Rattle.seg_merge.specs.Kept.{row_of, shown_of};
+ghost use Rattle.seg_sealed.specs.Marks.{death_of};
+ghost use Rattle.seg_merge.specs.Kept.{row_of, shown_of, marks_from};
 
 use crate::kept::{Kept, KeptRows, kept_by_position, marks_of};
 use binlog_format::DeleteLog;
@@ -49,18 +50,26 @@ fn part_of_rows(alloc: Global, number: u64, applied: u64, kept: Vec<Kept>) -> Re
     ensures applied { IfOk result (λ part. part.applied ≡ applied) }
     ensures rows { IfOk result (λ part. shown_rows part ≡ map shown_of kept.items) }
 {
-    let marks = marks_of(alloc, kept.as_slice())?;
-    let marks = Marks::of_log(
-        alloc,
-        DeleteLog {
-            segment: number,
-            applied,
-            marks: List::of(marks),
-        },
-    )?;
-    let marks = Arc::new(alloc, marks)?;
+    let marks = marks_in(alloc, number, applied, kept.as_slice())?;
     let rows = KeptRows { kept };
     let sealed = Sealed::build(alloc, number, &rows)?;
-    let sealed = Arc::new(alloc, sealed)?;
-    Ok(Part::new(sealed, marks))
+    let shared_marks = Arc::new(alloc, marks)?;
+    let shared_sealed = Arc::new(alloc, sealed)?;
+    Ok(Part::new(shared_sealed, shared_marks))
+}
+
+/// The marks of some rows of a segment, up to a position.
+fn marks_in(alloc: Global, number: u64, applied: u64, kept: &[Kept]) -> Result<Marks, Memory>
+    requires number { number < 2 ^ 60 }
+    requires few { length kept.now ≤ 65536 }
+    ensures deaths { IfOk result (λ marks. marks.deaths ≡ map death_of (marks_from 0 kept.now)) }
+    ensures applied { IfOk result (λ marks. marks.applied ≡ applied) }
+{
+    let marks = marks_of(alloc, kept)?;
+    let log = DeleteLog {
+        segment: number,
+        applied,
+        marks: List::of(marks),
+    };
+    Marks::of_log(alloc, log)
 }
