@@ -12,7 +12,7 @@ use Rattle.answer_lines.specs.declared.answers.MeetReply.{MeetReply}
 use Rattle.answer_lines.specs.declared.answers.Answer.{Answer}
 use Rattle.legal_output.specs.Lines.{Asked, Line, Start, Written, Reading, Snapshot, Late, channel_of, caller_of, changes_of, reading_of, needs, written_of, snapshot_of, late_of, ticks_of, seals_of, met_of, failures_of, drawn, stamps}
 
--- an item among others, behind those that are not later
+-- an item among others, behind those that are earlier
 abbrev pub place : {X : Type 0} → (X → ℕ) → X → List X → List X
 place ts_of item [] = item ∷ []
 place ts_of item (other ∷ others) = if nat_le (ts_of item) (ts_of other) then item ∷ other ∷ others else other ∷ place ts_of item others

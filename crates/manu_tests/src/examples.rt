@@ -1,13 +1,11 @@
 //! The session of `examples/near-duplicates.jsonl`; that of `examples/documents.jsonl` is what `manu` is
 //! run on.
 
-use crate::runs::{joined, still};
-use manu_serve::Status;
+use crate::runs::check;
 use std::test::Fail;
 
 #[test]
 fn near_duplicates_are_found(rt: HostRuntime) -> Result<(), Fail> {
-    let alloc = rt.alloc();
     let input = [
         r#"{"op":"create","dim":64}"#,
         r#"{"op":"insert","key":40017,"vector":"c3d4b2a190887766"}"#,
@@ -37,9 +35,6 @@ fn near_duplicates_are_found(rt: HostRuntime) -> Result<(), Fail> {
         r#"{"answer":"refused","line":12,"reason":"BadVector"}"#,
         r#"{"answer":"end","live":2,"ts":13}"#,
     ];
-    let (status, written) = still(alloc, &input)?;
-    assert_eq!(&rt; status, Status::Done);
-    let wanted = joined(alloc, &answers)?;
-    assert_eq!(&rt; written.as_slice(), wanted.as_slice());
+    check(&rt, rt.alloc(), &input, &answers)?;
     Ok(())
 }

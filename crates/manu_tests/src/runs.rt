@@ -64,11 +64,13 @@ pub fn run_from<S: Source, M: Moments>(
     Ok((status, output))
 }
 
-/// What `run --still` writes for an input, and how it ends; the clock, which tells 10,000, does not count.
-pub fn still(alloc: Global, input: &[u8]) -> Result<(Status, Vec<u8>), Fail> {
+/// What `run --still` writes for some lines, and how it ends; the clock, which tells 10,000, does not
+/// count.
+pub fn still(alloc: Global, lines: &[&str]) -> Result<(Status, Vec<u8>), Fail> {
+    let input = joined(alloc, lines)?;
     let given = Given {
         words: &["run", "--still"],
-        input,
+        input: &input,
         failing_reads: &[],
         failing_writes: &[],
     };
@@ -77,8 +79,7 @@ pub fn still(alloc: Global, input: &[u8]) -> Result<(Status, Vec<u8>), Fail> {
 
 /// Sees that `run --still` ends well and writes these lines for those.
 pub fn check(rt: &impl Abort, alloc: Global, input: &[&str], output: &[&str]) -> Result<(), Fail> {
-    let lines = joined(alloc, input)?;
-    let (status, written) = still(alloc, &lines)?;
+    let (status, written) = still(alloc, input)?;
     assert_eq!(rt; status, Status::Done);
     let wanted = joined(alloc, output)?;
     assert_eq!(rt; written.as_slice(), wanted.as_slice());

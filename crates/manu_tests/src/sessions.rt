@@ -1,6 +1,7 @@
 //! Runs with a metric, with fields and filters, at the greatest sizes, and of lines that are refused.
 
-use crate::runs::{check, joined, still};
+use crate::runs::{Given, check, joined, run};
+use manu_edge::FixedMoments;
 use manu_serve::Status;
 use std::alloc::{AllocError, Global};
 use std::test::Fail;
@@ -119,7 +120,13 @@ fn the_greatest_dimension_and_the_greatest_k(rt: HostRuntime) -> Result<(), Fail
         let line = with_digits(alloc, text, first, digit, behind)?;
         input.extend_from_slice(&line)?;
     }
-    let (status, output) = still(alloc, &input)?;
+    let given = Given {
+        words: &["run", "--still"],
+        input: &input,
+        failing_reads: &[],
+        failing_writes: &[],
+    };
+    let (status, output) = run(alloc, &given, &FixedMoments(10_000))?;
     let wanted = joined(
         alloc,
         &[

@@ -1,5 +1,5 @@
 -- What each call keeps of the fields of a table.
-use Rattle.std.proofs.Common.{◌≡◌, ◌≢◌, ℕ, ◌+◌, ◌-◌, ◌^◌, ◌<◌, ◌≤◌, nat_eq, Bool, true, false, ◌||◌, cond, List, [], ◌∷◌, length, map, replicate, zero, suc, get_or, set, length-set, get_or-set_same, get_or-set_other, Option, Some, None, refl, sym, ap, subst, ◌∙◌, ⊎_elim, arith}
+use Rattle.std.proofs.Common.{◌≡◌, ◌≢◌, ℕ, ◌+◌, ◌-◌, ◌^◌, ◌<◌, ◌≤◌, Bool, true, false, ◌||◌, cond, List, [], ◌∷◌, length, map, replicate, zero, suc, get_or, set, length-set, get_or-set_same, get_or-set_other, Option, Some, None, refl, sym, ap, subst, ◌∙◌, ⊎_elim, arith}
 use Rattle.std.specs.Option.{IfSome, option_map}
 use Rattle.std.specs.List.{sum_by}
 use Rattle.std.proofs.lemmas.Bool.{cases_eq}
@@ -7,11 +7,11 @@ use Rattle.std.proofs.lemmas.List.{length-replicate}
 use Rattle.std.specs.Ordering.{nat_cmp, eq_by_cmp}
 use Rattle.std.specs.Cmp.{nat_cmp_total}
 use Rattle.std.specs.FinMap as fin
-use Rattle.journal_model.specs.Layouts.{loaded, released}
+use Rattle.journal_model.specs.Layouts.{homes_after_load, homes_after_release}
 use Rattle.place_table.specs.declared.refusals.PlaceError.TheVariants.{Already, NotThere, LastPlace}
 use Rattle.place_table.specs.Tables.{Placement, at_leader, is_on, is_elsewhere, with_homes, rehomed, rehomed_at, load_refused, release_refused, rows_if, rows_on}
 use Rattle.place_table.specs.Fields.{IsKept, IsPlaced, rows_in}
-use Rattle.place_table.proofs.RowLaws.{total, total-fresh, total-removed, total-replaced, total-le}
+use Rattle.place_table.proofs.RowLaws.{total-fresh, total-removed, total-replaced, total-le}
 use Rattle.place_table.proofs.HomeLaws.{same, differ, has-loaded, some-loaded, has-released, others-released, some-released}
 
 abbrev pub counts : ℕ → Placement → ℕ
@@ -56,7 +56,7 @@ set_counts loads m n node now was is others k under =
     let apart : k ≢ node → get_or (set loads node now) k 0 ≡ rows_on k n = λ ne. get_or-set_other loads node k now 0 ne ∙ was k inside ∙ sym (others k ne) in
     ⊎_elim at_node apart (cases_eq k node)
 
--- what is known of a segment that is loaded on a node
+-- what is known of a segment that is homes_after_load on a node
 record IsLoadable (segment node rows : ℕ) (m : fin.FinMap nat_cmp Placement) : Type 0 where
   placement : Placement
   is : fin.get m segment ≡ Some placement
@@ -82,20 +82,20 @@ or_false : (a : Bool) → a || false ≡ a
 or_false true = refl
 or_false false = refl
 
-loaded_counts : (loads : List ℕ) (m : fin.FinMap nat_cmp Placement) (segment node rows : ℕ) (x : IsLoadable segment node rows m) → get_or loads node 0 ≡ rows_on node m → get_or loads node 0 + rows ≡ rows_on node (fin.insert m segment (with_homes (loaded node) x.placement))
+loaded_counts : (loads : List ℕ) (m : fin.FinMap nat_cmp Placement) (segment node rows : ℕ) (x : IsLoadable segment node rows m) → get_or loads node 0 ≡ rows_on node m → get_or loads node 0 + rows ≡ rows_on node (fin.insert m segment (with_homes (homes_after_load node) x.placement))
 loaded_counts loads m segment node rows x was =
     let p = x.placement in
-    let a = total-replaced (counts node) m segment p (with_homes (loaded node) p) x.is in
+    let a = total-replaced (counts node) m segment p (with_homes (homes_after_load node) p) x.is in
     let b : counts node p ≡ 0 = ap (λ b. rows_if b p.rows) x.off in
-    let d : counts node (with_homes (loaded node) p) ≡ rows = ap (λ b. rows_if b p.rows) (has-loaded node node p.homes ∙ ap (λ b. is_on node p || b) (same node) ∙ or_true (is_on node p)) ∙ x.rows_are in
+    let d : counts node (with_homes (homes_after_load node) p) ≡ rows = ap (λ b. rows_if b p.rows) (has-loaded node node p.homes ∙ ap (λ b. is_on node p || b) (same node) ∙ or_true (is_on node p)) ∙ x.rows_are in
     omega arith
 
 pub load_keeps : (loads : List ℕ) (sum : ℕ) (m : fin.FinMap nat_cmp Placement) (segment node rows : ℕ) → IsKept loads sum m → node < length loads → load_refused segment node (fin.get m segment) ≡ None → option_map (λ p. p.rows) (fin.get m segment) ≡ Some rows
-    → IsKept (set loads node (get_or loads node 0 + rows)) sum (rehomed segment (loaded node) m)
+    → IsKept (set loads node (get_or loads node 0 + rows)) sum (rehomed segment (homes_after_load node) m)
 load_keeps loads sum m segment node rows kept below free is =
     let x = loadable segment node rows m free is in
     let p = x.placement in
-    let changed : Placement = with_homes (loaded node) p in
+    let changed : Placement = with_homes (homes_after_load node) p in
     let n : fin.FinMap nat_cmp Placement = fin.insert m segment changed in
     let others : (k : ℕ) → k ≢ node → rows_on k n ≡ rows_on k m = λ k ne.
     let a = total-replaced (counts k) m segment p changed x.is in
@@ -109,14 +109,14 @@ load_keeps loads sum m segment node rows kept below free is =
       fits = kept.fits;
       placed = placed_at m segment changed (some-loaded node p.homes) kept.placed;
     } in
-    subst (λ o. IsKept (set loads node (get_or loads node 0 + rows)) sum (rehomed_at segment (loaded node) m o)) (sym x.is) done
+    subst (λ o. IsKept (set loads node (get_or loads node 0 + rows)) sum (rehomed_at segment (homes_after_load node) m o)) (sym x.is) done
 
 pub load_fits : (loads : List ℕ) (sum : ℕ) (m : fin.FinMap nat_cmp Placement) (segment node rows : ℕ) → IsKept loads sum m → node < length loads → load_refused segment node (fin.get m segment) ≡ None → option_map (λ p. p.rows) (fin.get m segment) ≡ Some rows
     → get_or loads node 0 + rows < 2 ^ 64
 load_fits loads sum m segment node rows kept below free is =
     let x = loadable segment node rows m free is in
     let p = x.placement in
-    let changed : Placement = with_homes (loaded node) p in
+    let changed : Placement = with_homes (homes_after_load node) p in
     let a = loaded_counts loads m segment node rows x (kept.counted node below) in
     let b : rows_on node (fin.insert m segment changed) ≤ rows_in (fin.insert m segment changed) = total-le (counts node) (λ p. p.rows) (fin.insert m segment changed) (counts-le node) in
     let d = total-replaced (λ p. p.rows) m segment p changed x.is in
@@ -124,7 +124,7 @@ load_fits loads sum m segment node rows kept below free is =
     let f = kept.fits in
     omega arith
 
--- what is known of a segment that is released from a node
+-- what is known of a segment that is homes_after_release from a node
 record IsReleasable (segment node rows : ℕ) (m : fin.FinMap nat_cmp Placement) : Type 0 where
   placement : Placement
   is : fin.get m segment ≡ Some placement
@@ -161,11 +161,11 @@ release_fits loads sum m segment node rows kept below free is =
     omega arith
 
 pub release_keeps : (loads : List ℕ) (sum : ℕ) (m : fin.FinMap nat_cmp Placement) (segment node rows : ℕ) → IsKept loads sum m → node < length loads → release_refused segment node (fin.get m segment) ≡ None → option_map (λ p. p.rows) (fin.get m segment) ≡ Some rows
-    → IsKept (set loads node (get_or loads node 0 - rows)) sum (rehomed segment (released node) m)
+    → IsKept (set loads node (get_or loads node 0 - rows)) sum (rehomed segment (homes_after_release node) m)
 release_keeps loads sum m segment node rows kept below free is =
     let x = releasable segment node rows m free is in
     let p = x.placement in
-    let changed : Placement = with_homes (released node) p in
+    let changed : Placement = with_homes (homes_after_release node) p in
     let n : fin.FinMap nat_cmp Placement = fin.insert m segment changed in
     let others : (k : ℕ) → k ≢ node → rows_on k n ≡ rows_on k m = λ k ne.
     let a = total-replaced (counts k) m segment p changed x.is in
@@ -185,7 +185,7 @@ release_keeps loads sum m segment node rows kept below free is =
       fits = kept.fits;
       placed = placed_at m segment changed (some-released node p.homes x.more) kept.placed;
     } in
-    subst (λ o. IsKept (set loads node (get_or loads node 0 - rows)) sum (rehomed_at segment (released node) m o)) (sym x.is) done
+    subst (λ o. IsKept (set loads node (get_or loads node 0 - rows)) sum (rehomed_at segment (homes_after_release node) m o)) (sym x.is) done
 
 -- ---- a segment is dropped
 

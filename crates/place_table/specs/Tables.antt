@@ -1,11 +1,11 @@
 -- Which segments stand where.
-use Rattle.std.specs.Prelude.{◌≡◌, ℕ, ◌<◌, ◌≤◌, Bool, not, if◌then◌else◌, List, [], ◌∷◌, length, Option, Some, None, Result, Ok, Err}
+use Rattle.std.specs.Prelude.{ℕ, ◌<◌, ◌≤◌, Bool, not, if◌then◌else◌, List, [], ◌∷◌, Option, Some, None, Result, Ok, Err}
 use Rattle.std.specs.List.{list_any, sum_by}
 use Rattle.std.specs.Ordering.{nat_cmp}
 use Rattle.std.specs.FinMap as fin
 use Rattle.journal_model.specs.declared.notes.Home.{Home}
 use Rattle.journal_model.specs.declared.notes.Home.TheVariants.{Leader, Node}
-use Rattle.journal_model.specs.Layouts.{is_home, loaded, released}
+use Rattle.journal_model.specs.Layouts.{is_home, homes_after_load, homes_after_release}
 use Rattle.place_table.specs.declared.refusals.PlaceError.{PlaceError}
 use Rattle.place_table.specs.declared.refusals.PlaceError.TheVariants.{Gone, Already, NotThere, LastPlace}
 
@@ -51,10 +51,10 @@ abbrev pub with_added : Table → ℕ → ℕ → Table
 with_added table segment rows = with_segments table (fin.insert table.segments segment (at_leader rows))
 
 abbrev pub with_load : Table → ℕ → ℕ → Table
-with_load table segment node = with_segments table (rehomed segment (loaded node) table.segments)
+with_load table segment node = with_segments table (rehomed segment (homes_after_load node) table.segments)
 
 abbrev pub with_release : Table → ℕ → ℕ → Table
-with_release table segment node = with_segments table (rehomed segment (released node) table.segments)
+with_release table segment node = with_segments table (rehomed segment (homes_after_release node) table.segments)
 
 abbrev pub without : Table → ℕ → Table
 without table segment = with_segments table (fin.remove table.segments segment)
@@ -72,7 +72,7 @@ abbrev pub release_refused : ℕ → ℕ → Option Placement → Option PlaceEr
 release_refused segment node None = Some (Gone segment)
 release_refused segment node (Some p) = if is_on node p then last_refused segment node p else Some (NotThere segment node)
 
--- why a segment is not loaded on a node, the first cause that holds
+-- why a segment is not homes_after_load on a node, the first cause that holds
 abbrev pub load_refusal : Table → ℕ → ℕ → Option PlaceError
 load_refusal table segment node = load_refused segment node (fin.get table.segments segment)
 

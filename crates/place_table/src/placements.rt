@@ -2,7 +2,7 @@
 
 ghost use Rattle.std.specs.Prelude.{◌≡◌, true, OnOk, OnErr, IfOk, IfErr, IfSome, IfNone, ◌⊎◌, None, Some};
 ghost use Rattle.std.specs.List.{list_any};
-ghost use Rattle.journal_model.specs.Layouts.{is_home, loaded, released};
+ghost use Rattle.journal_model.specs.Layouts.{is_home, homes_after_load, homes_after_release};
 ghost use Rattle.place_table.specs.Tables.{at_leader, is_on, is_elsewhere, with_homes, load_refused, release_refused, answer_of};
 
 use crate::refusals::PlaceError;
@@ -65,7 +65,7 @@ impl Entry {
 
     /// Adds a node to the homes, and takes the leader's place away.
     fn add(&mut self, node: u32) -> Result<(), Memory>
-        ensures ok { OnOk result (self.new ≡ with_homes (loaded node) self.old) }
+        ensures ok { OnOk result (self.new ≡ with_homes (homes_after_load node) self.old) }
         ensures err { OnErr result (self.new ≡ self.old) }
     {
         self.homes.push(Home::Node(node))?;
@@ -74,14 +74,14 @@ impl Entry {
     }
 
     fn remove(&mut self, node: u32)
-        ensures { self.new ≡ with_homes (released node) self.old }
+        ensures { self.new ≡ with_homes (homes_after_release node) self.old }
     {
         self.homes.retain(|home| !is_node(home, node));
     }
 
     /// Loads the segment, which has this number, on a node.
     pub(crate) fn load(&mut self, segment: u64, node: u32) -> Result<u32, PlaceError>
-        ensures ok { OnOk result (self.new ≡ with_homes (loaded node) self.old) }
+        ensures ok { OnOk result (self.new ≡ with_homes (homes_after_load node) self.old) }
         ensures rows { IfOk result (λ rows. rows ≡ self.old.rows) }
         ensures free { OnOk result (load_refused segment node (Some self.old) ≡ None) }
         ensures err { OnErr result (self.new ≡ self.old) }
@@ -97,7 +97,7 @@ impl Entry {
 
     /// Releases the segment, which has this number, from a node.
     pub(crate) fn release(&mut self, segment: u64, node: u32) -> Result<u32, PlaceError>
-        ensures ok { OnOk result (self.new ≡ with_homes (released node) self.old) }
+        ensures ok { OnOk result (self.new ≡ with_homes (homes_after_release node) self.old) }
         ensures rows { IfOk result (λ rows. rows ≡ self.old.rows) }
         ensures free { OnOk result (release_refused segment node (Some self.old) ≡ None) }
         ensures err { OnErr result (self.new ≡ self.old) }

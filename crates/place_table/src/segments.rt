@@ -3,7 +3,7 @@
 ghost use Rattle.std.specs.Prelude.{◌≡◌, OnOk, OnErr, IfOk, IfErr, IfSome, ◌⊎◌, None, Some};
 ghost use Rattle.std.specs.Option.{option_copied, option_map};
 ghost use Rattle.std.specs.FinMap as fin;
-ghost use Rattle.journal_model.specs.Layouts.{loaded, released};
+ghost use Rattle.journal_model.specs.Layouts.{homes_after_load, homes_after_release};
 ghost use Rattle.place_table.specs.Tables.{at_leader, rehomed, load_refused, release_refused};
 
 use crate::placements::Entry;
@@ -69,7 +69,7 @@ impl Segments {
 
     /// Loads a segment on a node, and tells its rows.
     pub(crate) fn load(&mut self, segment: u64, node: u32) -> Result<u32, PlaceError>
-        ensures ok { OnOk result (self.new ≡ rehomed segment (loaded node) self.old) }
+        ensures ok { OnOk result (self.new ≡ rehomed segment (homes_after_load node) self.old) }
         ensures rows { IfOk result (λ rows. option_map (λ p. p.rows) (fin.get self.old segment) ≡ Some rows) }
         ensures free { OnOk result (load_refused segment node (fin.get self.old segment) ≡ None) }
         ensures err { OnErr result (self.new ≡ self.old) }
@@ -84,7 +84,7 @@ impl Segments {
 
     /// Releases a segment from a node, and tells its rows.
     pub(crate) fn release(&mut self, segment: u64, node: u32) -> Result<u32, PlaceError>
-        ensures ok { OnOk result (self.new ≡ rehomed segment (released node) self.old) }
+        ensures ok { OnOk result (self.new ≡ rehomed segment (homes_after_release node) self.old) }
         ensures rows { IfOk result (λ rows. option_map (λ p. p.rows) (fin.get self.old segment) ≡ Some rows) }
         ensures free { OnOk result (release_refused segment node (fin.get self.old segment) ≡ None) }
         ensures err { OnErr result (self.new ≡ self.old) }

@@ -1,4 +1,4 @@
-use Rattle.std.proofs.Common.{ℕ, ◌<◌, ◌≤◌, List, length, get_or}
+use Rattle.std.proofs.Common.{ℕ, ◌<◌, ◌≤◌, List, get_or}
 use Rattle.place_table.proofs.places.least.Given as goal
 
 pub record IsLeastOf (loads : List ℕ) (upto best : ℕ) : Type 0 where

@@ -1,7 +1,6 @@
-use Rattle.std.proofs.Common.{◌≡◌, ◌+◌, ◌<◌, ◌^◌, subst, sym, ap, ◌∙◌, None, arith}
+use Rattle.std.proofs.Common.{◌≡◌, ◌+◌, ◌<◌, ◌^◌, ap, ◌∙◌, None, arith}
 use Rattle.std.specs.FinMap as fin
-use Rattle.place_table.specs.Tables.{Table, at_leader}
-use Rattle.place_table.specs.Fields.{IsKept}
+use Rattle.place_table.specs.Tables.{Table}
 use Rattle.place_table.proofs.KeptLaws.{add_keeps}
 use Rattle.place_table.proofs.places.Places.add.Goals as goal
 

@@ -1,6 +1,4 @@
-use Rattle.std.proofs.Common.{◌≡◌, ◌≤◌, ◌-◌, Some, None, subst, sym, ap, ◌∙◌}
-use Rattle.std.specs.FinMap as fin
-use Rattle.place_table.specs.Fields.{IsKept}
+use Rattle.std.proofs.Common.{sym, ◌∙◌}
 use Rattle.place_table.proofs.SegmentLaws.{absent}
 use Rattle.place_table.proofs.KeptLaws.{drop_fits, drop_counts, drop_keeps}
 use Rattle.place_table.proofs.places.Places.drop_all.Goals as goal

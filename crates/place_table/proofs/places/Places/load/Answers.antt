@@ -1,6 +1,5 @@
 use Rattle.std.proofs.Common.{◌<◌, ℕ, length, subst, sym, ap}
 use Rattle.place_table.specs.Tables.{Table}
-use Rattle.place_table.specs.Fields.{IsKept}
 use Rattle.place_table.proofs.KeptLaws.{load_keeps, load_fits}
 use Rattle.place_table.proofs.places.Places.load.Goals as goal
 

@@ -1,5 +1,4 @@
 use Rattle.std.proofs.Common.{◌≡◌, replicate}
-use Rattle.place_table.specs.Fields.{IsKept}
 use Rattle.place_table.proofs.KeptLaws.{new_keeps}
 use Rattle.place_table.proofs.places.Places.new.Goals as goal
 

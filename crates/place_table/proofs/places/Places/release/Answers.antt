@@ -1,6 +1,5 @@
 use Rattle.std.proofs.Common.{◌<◌, ℕ, length, subst, sym, ap}
 use Rattle.place_table.specs.Tables.{Table}
-use Rattle.place_table.specs.Fields.{IsKept}
 use Rattle.place_table.proofs.KeptLaws.{release_keeps, release_fits}
 use Rattle.place_table.proofs.places.Places.release.Goals as goal
 

@@ -1,4 +1,4 @@
-use Rattle.std.proofs.Common.{sym, ap, ◌∙◌}
+use Rattle.std.proofs.Common.{ap, ◌∙◌}
 use Rattle.std.specs.FinMap as fin
 use Rattle.place_table.specs.Tables.{at_leader}
 use Rattle.place_table.proofs.SegmentLaws.{was_set}

@@ -1,8 +1,8 @@
-use Rattle.std.proofs.Common.{◌≡◌, ℕ, ◌⊎◌, Bool, true, false, cond, List, Option, Some, None, Ok, Err, Result, OnOk, OnErr, IfOk, IfErr, IfSome, refl, sym, ap, subst, ◌∙◌, inl, inr}
+use Rattle.std.proofs.Common.{◌≡◌, ℕ, ◌⊎◌, Some, None, Ok, Err, Result, OnOk, OnErr, IfOk, IfErr, IfSome, refl, sym, ap, subst, ◌∙◌, inr}
 use Rattle.std.specs.Option.{IsSome, option_map, option_copied_mut}
 use Rattle.std.specs.FinMap as fin
 use Rattle.std.specs.Ordering.{nat_cmp}
-use Rattle.journal_model.specs.Layouts.{loaded}
+use Rattle.journal_model.specs.Layouts.{homes_after_load}
 use Rattle.place_table.specs.declared.refusals.PlaceError.{PlaceError}
 use Rattle.place_table.specs.declared.refusals.PlaceError.TheVariants as errors
 use Rattle.place_table.specs.Tables.{Placement, with_homes, rehomed, rehomed_at, load_refused}
@@ -28,8 +28,8 @@ returns-in_default-clause-refused c = let refusal : Result ℕ PlaceError = Err 
 pub returns-clause-ok : goal.returns-clause-ok
 returns-clause-ok c = go c.load.result c.load.ensures.ok
   where
-    go : (r : Result ℕ PlaceError) → OnOk r (c.load.new.self ≡ with_homes (loaded c.args.node) c.in-Some.entry.now) → OnOk r (fin.from_entries {R = nat_cmp} (c.get_mut.follows.lender c.load.new.self).entries ≡ rehomed c.args.segment (loaded c.args.node) c.args.self.now)
-    go (Ok x) e = after c c.load.new.self ∙ ap (fin.insert c.args.self.now c.args.segment) e ∙ ap (rehomed_at c.args.segment (loaded c.args.node) c.args.self.now) (sym (there c))
+    go : (r : Result ℕ PlaceError) → OnOk r (c.load.new.self ≡ with_homes (homes_after_load c.args.node) c.in-Some.entry.now) → OnOk r (fin.from_entries {R = nat_cmp} (c.get_mut.follows.lender c.load.new.self).entries ≡ rehomed c.args.segment (homes_after_load c.args.node) c.args.self.now)
+    go (Ok x) e = after c c.load.new.self ∙ ap (fin.insert c.args.self.now c.args.segment) e ∙ ap (rehomed_at c.args.segment (homes_after_load c.args.node) c.args.self.now) (sym (there c))
     go (Err x) e = tt
 
 pub returns-clause-rows : goal.returns-clause-rows

@@ -1,10 +1,9 @@
-use Rattle.std.proofs.Common.{◌≡◌, ℕ, ◌⊎◌, Bool, true, false, cond, List, Option, Some, None, Ok, Err, Result, OnOk, OnErr, IfOk, IfErr, IfSome, refl, sym, ap, subst, ◌∙◌, inl, inr}
+use Rattle.std.proofs.Common.{◌≡◌, ℕ, Some, None, Ok, Err, Result, OnOk, OnErr, IfOk, IfErr, refl, sym, ap, subst, ◌∙◌}
 use Rattle.std.specs.Option.{IsSome, option_map, option_copied_mut}
 use Rattle.std.specs.FinMap as fin
 use Rattle.std.specs.Ordering.{nat_cmp}
-use Rattle.journal_model.specs.Layouts.{released}
+use Rattle.journal_model.specs.Layouts.{homes_after_release}
 use Rattle.place_table.specs.declared.refusals.PlaceError.{PlaceError}
-use Rattle.place_table.specs.declared.refusals.PlaceError.TheVariants as errors
 use Rattle.place_table.specs.Tables.{Placement, with_homes, rehomed, rehomed_at, release_refused}
 use Rattle.place_table.proofs.SegmentLaws.{found, was_set, stays}
 use Rattle.place_table.proofs.segments.Segments.release.Goals as goal
@@ -25,8 +24,8 @@ returns-in_default-clause-cause c = (ap (release_refused c.args.segment c.args.n
 pub returns-clause-ok : goal.returns-clause-ok
 returns-clause-ok c = go c.release.result c.release.ensures.ok
   where
-    go : (r : Result ℕ PlaceError) → OnOk r (c.release.new.self ≡ with_homes (released c.args.node) c.in-Some.entry.now) → OnOk r (fin.from_entries {R = nat_cmp} (c.get_mut.follows.lender c.release.new.self).entries ≡ rehomed c.args.segment (released c.args.node) c.args.self.now)
-    go (Ok x) e = after c c.release.new.self ∙ ap (fin.insert c.args.self.now c.args.segment) e ∙ ap (rehomed_at c.args.segment (released c.args.node) c.args.self.now) (sym (there c))
+    go : (r : Result ℕ PlaceError) → OnOk r (c.release.new.self ≡ with_homes (homes_after_release c.args.node) c.in-Some.entry.now) → OnOk r (fin.from_entries {R = nat_cmp} (c.get_mut.follows.lender c.release.new.self).entries ≡ rehomed c.args.segment (homes_after_release c.args.node) c.args.self.now)
+    go (Ok x) e = after c c.release.new.self ∙ ap (fin.insert c.args.self.now c.args.segment) e ∙ ap (rehomed_at c.args.segment (homes_after_release c.args.node) c.args.self.now) (sym (there c))
     go (Err x) e = tt
 
 pub returns-clause-rows : goal.returns-clause-rows
