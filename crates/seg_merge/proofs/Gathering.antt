@@ -1,5 +1,5 @@
 -- Rows that are gathered part by part, and row by row.
-use Rattle.std.proofs.Common.{◌≡◌, ℕ, zero, suc, ◌+◌, ◌<◌, ◌≤◌, Bool, true, false, cond, not, List, [], ◌∷◌, ◌++◌, length, map, take, get_or, slice_get, Option, Some, None, refl, sym, ap, ap₂, subst, ◌∙◌, append_assoc, append-nil, arith}
+use Rattle.std.proofs.Common.{◌≡◌, ℕ, zero, suc, ◌+◌, ◌<◌, Bool, true, false, cond, not, List, [], ◌∷◌, ◌++◌, length, map, take, get_or, slice_get, Some, None, refl, sym, ap, ap₂, subst, ◌∙◌, append_assoc, append-nil, arith}
 use Rattle.std.specs.Option.{option_map}
 use Rattle.std.specs.List.{AllByRecursion, filter}
 use Rattle.std.proofs.lemmas.List.{map-append, take_more}
@@ -13,7 +13,7 @@ use Rattle.seg_sealed.specs.Segments.{IsSealed}
 use Rattle.seg_sealed.specs.Marks.{death_at}
 use Rattle.seg_sealed.specs.Parts.{SegmentPart, shown_as, shown_from, shown_rows}
 use Rattle.seg_merge.specs.declared.kept.Kept.{Kept}
-use Rattle.seg_merge.specs.Kept.{row_of, number_in, shown_of, outlives}
+use Rattle.seg_merge.specs.Kept.{number_in, shown_of, outlives}
 
 none_some : {A : Type 0} (x : A) → None ≡ Some x → ⊥
 none_some x e = cc

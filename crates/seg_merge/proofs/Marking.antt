@@ -1,13 +1,11 @@
 -- The marks of rows, and the rows with their marks.
-use Rattle.std.proofs.Common.{◌≡◌, ◌≢◌, ℕ, zero, suc, ◌+◌, ◌<◌, ◌≤◌, List, [], ◌∷◌, ◌++◌, length, map, take, slice_get, get_or, Option, Some, None, refl, sym, ap, ap₂, subst, ◌∙◌, append_assoc, append-nil, arith}
+use Rattle.std.proofs.Common.{◌≡◌, ℕ, zero, suc, ◌+◌, ◌<◌, ◌≤◌, List, [], ◌∷◌, ◌++◌, length, map, take, slice_get, Option, Some, None, refl, sym, ap, ap₂, ◌∙◌, append_assoc, append-nil, arith}
 use Rattle.std.specs.Option.{option_map}
-use Rattle.std.specs.List.{AllByRecursion}
 use Rattle.std.proofs.Math.Seq.{take-length}
 use Rattle.hybrid_time.specs.declared.times.Timestamp.{Timestamp}
 use Rattle.log_model.specs.Places.{Placed}
 use Rattle.binlog_format.specs.Fields.{InTurn}
 use Rattle.binlog_format.specs.Deletes.{IsMarkFrom, after_mark}
-use Rattle.journal_model.specs.Views.{Shown}
 use Rattle.seg_sealed.specs.Marks.{death_at, death_of}
 use Rattle.seg_sealed.specs.Parts.{AreDeathsOf, shown_as, shown_from}
 use Rattle.seg_sealed.proofs.MarkLaws.{Mark, found_first, passed_first}

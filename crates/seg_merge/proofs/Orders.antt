@@ -1,11 +1,11 @@
 -- Lists that rise by a number of each: what insertion gives, and what a sort gives.
-use Rattle.std.proofs.Common.{◌≡◌, ◌≢◌, ℕ, zero, suc, ◌+◌, ◌<◌, ◌≤◌, nat_eq, Bool, true, false, cond, List, [], ◌∷◌, ◌++◌, length, map, get_or, refl, sym, ap, ap₂, subst, ◌∙◌, inl, inr, ◌⊎◌, ⊎_elim, zero-add, arith}
+use Rattle.std.proofs.Common.{◌≡◌, ◌≢◌, ℕ, zero, suc, ◌+◌, ◌<◌, ◌≤◌, nat_eq, true, false, cond, List, [], ◌∷◌, length, map, get_or, refl, sym, ap, ap₂, subst, ◌∙◌, inl, inr, ◌⊎◌, ⊎_elim, zero-add, arith}
 use Rattle.std.specs.Prelude.{nat_le}
-use Rattle.std.specs.List.{AllByRecursion, All, Contains, count_by, sum_by, filter}
+use Rattle.std.specs.List.{AllByRecursion, Contains, count_by}
 use Rattle.std.specs.List.Sorted.{IsPermutation, IsNonDecreasingBy}
 use Rattle.std.proofs.lemmas.Bool.{cases_eq}
 use Rattle.std.proofs.lemmas.List.Sums.{sum_by-cons}
-use Rattle.std.proofs.lemmas.List.Sorted.{sum_by-IsPermutation, IsPermutation-keeps, IsPermutation-sym, Contains-permutation}
+use Rattle.std.proofs.lemmas.List.Sorted.{sum_by-IsPermutation, IsPermutation-sym, Contains-permutation}
 use Rattle.journal_model.specs.Lists.{IsIn, insert_by, rising_by}
 
 module _ {X : Type 0} (at : X → ℕ) where
@@ -160,9 +160,10 @@ module _ {X : Type 0} (at : X → ℕ) where
   rise_sorted : (xs : List X) → IsNonDecreasingBy at xs → ((n : ℕ) → counted n xs ≤ 1) → Rises xs
   rise_sorted [] up few = tt
   rise_sorted (x ∷ xs) up few =
-      let none : counted (at x) xs ≡ 0 = let a = counted-hit (at x) x xs refl in let b = few (at x) in omega arith in
-      (all_above (at x) xs (λ j d lt. up 0 (suc j) d (omega arith) (omega arith)) none,
-       rise_sorted xs (λ i j d le lt. up (suc i) (suc j) d (omega arith) (omega arith)) (λ n. let a = tail_counted n x xs in let b = few n in omega arith))
+      let none : counted (at x) xs ≡ 0 = let a = counted-hit (at x) x xs refl in let b = few (at x) in omega arith in (
+        all_above (at x) xs (λ j d lt. up 0 (suc j) d (omega arith) (omega arith)) none,
+        rise_sorted xs (λ i j d le lt. up (suc i) (suc j) d (omega arith) (omega arith)) (λ n. let a = tail_counted n x xs in let b = few n in omega arith),
+      )
 
   -- ---- what a sort gives
 

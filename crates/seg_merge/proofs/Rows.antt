@@ -1,19 +1,18 @@
 -- The rows that a merge keeps are those of a segment, by position.
-use Rattle.std.proofs.Common.{◌≡◌, ◌≢◌, ℕ, zero, suc, ◌+◌, ◌<◌, ◌≤◌, ◌^◌, Bool, true, false, cond, not, List, [], ◌∷◌, ◌++◌, length, map, Option, Some, None, refl, sym, ap, ap₂, subst, ◌∙◌, inl, inr, ◌⊎◌, ⊎_elim, arith}
+use Rattle.std.proofs.Common.{◌≡◌, ◌≢◌, ℕ, suc, ◌<◌, ◌≤◌, ◌^◌, Bool, true, false, cond, List, [], ◌∷◌, ◌++◌, length, map, refl, sym, ap, ap₂, subst, ◌∙◌, ◌⊎◌, ⊎_elim, arith}
 use Rattle.std.specs.Prelude.{nat_le}
 use Rattle.std.specs.List.{AllByRecursion, filter}
 use Rattle.std.specs.List.Sorted.{IsPermutation, IsNonDecreasingBy}
 use Rattle.std.proofs.lemmas.List.{map-append, length-map}
-use Rattle.row_types.specs.declared.rows.Kind.{Kind}
 use Rattle.row_types.specs.Bits.{IsDimension}
 use Rattle.log_model.specs.Places.{Placed, placed}
 use Rattle.journal_model.specs.Lists.{joined, insert_by, rising_by}
 use Rattle.journal_model.specs.Views.{Shown}
 use Rattle.seg_sealed.specs.Segments.{SealedSegment, IsBefore, Rise, IsRowOf, IsSealed, kind_of, sealed_rows, position_of}
-use Rattle.seg_sealed.specs.Parts.{SegmentPart, shown_as, shown_from, shown_rows, kept_rows}
+use Rattle.seg_sealed.specs.Parts.{SegmentPart, shown_from, shown_rows, kept_rows}
 use Rattle.seg_merge.specs.declared.kept.Kept.{Kept}
 use Rattle.seg_merge.specs.Kept.{row_of, shown_of, outlives}
-use Rattle.seg_merge.specs.Merges.{IsLike, AreAlike, AreInOrder, rows_of, all_rows, applied_in}
+use Rattle.seg_merge.specs.Merges.{IsLike, AreAlike, AreInOrder, all_rows}
 use Rattle.seg_merge.proofs.Orders.{Apart, insert_all, rising_all, sorted_is, rising-map}
 
 abbrev pub placed_of : Shown → Placed

@@ -1,11 +1,11 @@
 -- Rows that a merge keeps, as they are gathered; only proofs need it.
-use Rattle.std.specs.Prelude.{◌≡◌, ℕ, suc, Bool, not, List, [], ◌∷◌, ◌++◌, map, Option, Some, None}
+use Rattle.std.specs.Prelude.{ℕ, suc, Bool, not, List, [], ◌∷◌, ◌++◌, Option, Some, None}
 use Rattle.std.specs.Option.{option_map}
 use Rattle.hybrid_time.specs.declared.times.Timestamp.{Timestamp}
 use Rattle.log_model.specs.Places.{Placed}
 use Rattle.journal_model.specs.Puts.{is_dead_by}
 use Rattle.journal_model.specs.Views.{Shown}
-use Rattle.seg_sealed.specs.Parts.{SegmentPart, shown_as}
+use Rattle.seg_sealed.specs.Parts.{shown_as}
 use Rattle.seg_merge.specs.declared.kept.Kept.{Kept}
 
 abbrev pub row_of : Kept → Placed

@@ -75,12 +75,7 @@ fn gathered(alloc: Global, parts: &[Part], floor: Timestamp) -> Result<Vec<Kept>
 }
 
 /// Adds the rows of a part that are not dead at or before the floor.
-fn gather(
-    alloc: Global,
-    part: &Part,
-    floor: Timestamp,
-    kept: &mut Vec<Kept>,
-) -> Result<(), Memory>
+fn gather(alloc: Global, part: &Part, floor: Timestamp, kept: &mut Vec<Kept>) -> Result<(), Memory>
     ensures rows { OnOk result (map shown_of kept.new.items ≡ map shown_of kept.old.items ++ filter (outlives floor.0) (shown_rows part.now)) }
     ensures sealed { IsSealed part.now.sealed }
 {
@@ -131,11 +126,7 @@ pub(crate) fn marks_of(alloc: Global, kept: &[Kept]) -> Result<Vec<(u32, Timesta
     Ok(marks)
 }
 
-fn push_mark(
-    marks: &mut Vec<(u32, Timestamp)>,
-    row: u32,
-    kept: &Kept,
-) -> Result<(), Memory>
+fn push_mark(marks: &mut Vec<(u32, Timestamp)>, row: u32, kept: &Kept) -> Result<(), Memory>
     ensures { OnOk result (marks.new.items ≡ marks.old.items ++ mark_at row kept.now.mark) }
 {
     if let Some(ts) = kept.mark {

@@ -1,4 +1,4 @@
-use Rattle.std.proofs.Common.{rules, ◌≡◌, ℕ, ◌+◌, ◌<◌, length, List, [], ◌∷◌, ◌++◌, Some, slice_get, not, true, false, refl, sym, ap, subst, ◌∙◌, arith}
+use Rattle.std.proofs.Common.{rules, ◌≡◌, ℕ, ◌+◌, ◌<◌, length, [], ◌∷◌, ◌++◌, Some, slice_get, not, true, false, sym, ap, subst, ◌∙◌, arith}
 use Rattle.std.specs.Option.{option_map}
 use Rattle.log_model.specs.Places.{Placed}
 use Rattle.journal_model.specs.Puts.{is_dead_by}
@@ -7,7 +7,7 @@ use Rattle.seg_sealed.specs.Marks.{death_at}
 use Rattle.seg_sealed.specs.Parts.{SegmentPart}
 use Rattle.seg_merge.specs.declared.kept.Kept.{Kept}
 use Rattle.seg_merge.specs.Kept.{number_in}
-use Rattle.seg_merge.proofs.Gathering.{AreGathered, gathered_push, gathered_pass, gathered_all}
+use Rattle.seg_merge.proofs.Gathering.{AreGathered, gathered_push, gathered_pass}
 use Rattle.seg_merge.proofs.kept.gather.Goals.{then-is_left+in_ok-row+in_ok-push, else-is_left}
 use Rattle.seg_merge.proofs.kept.gather.Goals as goal
 

@@ -1,9 +1,7 @@
-use Rattle.std.proofs.Common.{rules, ◌≡◌, List, map, sym, ap, subst, ◌∙◌}
-use Rattle.std.specs.List.{filter}
+use Rattle.std.proofs.Common.{rules}
 use Rattle.std.specs.List.Sorted.{IsNonDecreasingBy}
 use Rattle.std.proofs.lemmas.List.Sorted.{IsNonDecreasingBy-from_sort_by_key}
 use Rattle.seg_merge.specs.declared.kept.Kept.{Kept}
-use Rattle.seg_merge.specs.Kept.{shown_of}
 use Rattle.seg_merge.proofs.Rows.{kept_sorted}
 use Rattle.seg_merge.proofs.kept.kept_by_position.Goals as goal
 

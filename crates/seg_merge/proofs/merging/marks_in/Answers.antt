@@ -1,6 +1,5 @@
-use Rattle.std.proofs.Common.{rules, ◌≡◌, List, map, sym, ap, subst, ◌∙◌}
+use Rattle.std.proofs.Common.{◌≡◌, List, sym, subst, ◌∙◌}
 use Rattle.binlog_format.specs.Deletes.{IsDeleteLog}
-use Rattle.seg_sealed.specs.Marks.{death_of}
 use Rattle.seg_sealed.proofs.MarkLaws.{Mark}
 use Rattle.seg_merge.specs.Kept.{marks_from}
 use Rattle.seg_merge.proofs.Marking.{marks_few, marks_turn}
