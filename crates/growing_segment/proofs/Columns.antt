@@ -3,8 +3,8 @@ use Rattle.std.proofs.Common.{◌≡◌, ℕ, zero, suc, ◌+◌, ◌*◌, ◌�
 use Rattle.std.proofs.lemmas.List.{take-append-le, drop-append-le, take-append-drop, take_all, drop_all}
 use Rattle.std.specs.List.{AllByRecursion}
 use Rattle.row_types.specs.Bits.{AreWordsOf}
-use Rattle.log_model.specs.Places.{Placed}
-use Rattle.growing_segment.specs.Tails.{HasDimension, width_of, vector_of, IsColumn}
+use Rattle.log_model.specs.Places.{Placed, width_of, vector_of, IsColumn}
+use Rattle.growing_segment.specs.Tails.{HasDimension}
 
 pub words_fill : (bits : List Rattle.std.proofs.Common.Bool) (words : List ℕ) → AreWordsOf bits words → length words ≡ width_of (length bits)
 words_fill bits words are =

@@ -2,8 +2,8 @@
 use Rattle.std.proofs.Common.{◌≡◌, ℕ, zero, suc, ◌+◌, ◌*◌, ◌<◌, List, [], ◌∷◌, ◌++◌, length, take, drop, get_or, refl, sym, ap, subst, ◌∙◌, arith, append_assoc, length-append}
 use Rattle.std.proofs.lemmas.List.{take-append-drop, append-nil}
 use Rattle.std.specs.List.{AllByRecursion, slice_get}
-use Rattle.log_model.specs.Places.{Placed}
-use Rattle.growing_segment.specs.Tails.{Rows, HasDimension, HasChunkDimension, IsWhole, IsBefore, Rise, AreOfTail, rows_in}
+use Rattle.log_model.specs.Places.{Placed, PlacedBefore, Rise}
+use Rattle.growing_segment.specs.Tails.{Rows, HasDimension, HasChunkDimension, IsWhole, AreOfTail, rows_in}
 use Rattle.growing_segment.specs.Kept.{KeepsTail}
 use Rattle.growing_segment.proofs.Columns.{all_append, all_back}
 
@@ -48,18 +48,18 @@ slice_get-rows_in (c ∷ chunks) (suc k) j d w h i =
 
 -- ---- what a tail keeps
 
-rise_push : (rows : List Placed) (x : Placed) → Rise rows → AllByRecursion (λ y. IsBefore y x) rows → Rise (rows ++ x ∷ [])
+rise_push : (rows : List Placed) (x : Placed) → Rise rows → AllByRecursion (λ y. PlacedBefore y x) rows → Rise (rows ++ x ∷ [])
 rise_push [] x r a = (tt, tt)
-rise_push (y ∷ rows) x r a = (all_append (IsBefore y) rows (x ∷ []) r.0 (a.0, tt), rise_push rows x r.1 a.1)
+rise_push (y ∷ rows) x r a = (all_append (PlacedBefore y) rows (x ∷ []) r.0 (a.0, tt), rise_push rows x r.1 a.1)
 
-pub fit_push : (dim : ℕ) (rows : List Placed) (x : Placed) → length rows < 65536 → HasDimension dim x → AllByRecursion (λ y. IsBefore y x) rows → AreOfTail dim rows → AreOfTail dim (rows ++ x ∷ [])
+pub fit_push : (dim : ℕ) (rows : List Placed) (x : Placed) → length rows < 65536 → HasDimension dim x → AllByRecursion (λ y. PlacedBefore y x) rows → AreOfTail dim rows → AreOfTail dim (rows ++ x ∷ [])
 fit_push dim rows x few fits last are = record {
   few = omega (arith, length-append rows (x ∷ []));
   fit = all_append (HasDimension dim) rows (x ∷ []) are.fit (fits, tt);
   rise = rise_push rows x are.rise last;
 }
 
-pub keeps_push : (dim : ℕ) (chunks : List Rows) (latest : List Placed) (x : Placed) → length (rows_in chunks ++ latest) < 65536 → HasDimension dim x → AllByRecursion (λ y. IsBefore y x) (rows_in chunks ++ latest) → KeepsTail dim chunks latest → KeepsTail dim chunks (latest ++ x ∷ [])
+pub keeps_push : (dim : ℕ) (chunks : List Rows) (latest : List Placed) (x : Placed) → length (rows_in chunks ++ latest) < 65536 → HasDimension dim x → AllByRecursion (λ y. PlacedBefore y x) (rows_in chunks ++ latest) → KeepsTail dim chunks latest → KeepsTail dim chunks (latest ++ x ∷ [])
 keeps_push dim chunks latest x few fits last keeps = record {
   dim_fits = keeps.dim_fits;
   whole = keeps.whole;

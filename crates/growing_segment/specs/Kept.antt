@@ -1,8 +1,8 @@
 -- What the types keep of their fields; no caller needs it.
 use Rattle.std.specs.Prelude.{ℕ, ◌+◌, ◌*◌, ◌≤◌, List, ◌++◌, map}
 use Rattle.std.specs.List.{AllByRecursion}
-use Rattle.log_model.specs.Places.{Placed}
-use Rattle.growing_segment.specs.Tails.{Rows, HasDimension, HasChunkDimension, IsWhole, AreOfTail, width_of, vector_of, IsColumn, rows_in}
+use Rattle.log_model.specs.Places.{Placed, width_of, vector_of, IsColumn}
+use Rattle.growing_segment.specs.Tails.{Rows, HasDimension, HasChunkDimension, IsWhole, AreOfTail, rows_in}
 
 -- of the fields of a chunk's block: the words are those of the rows, and there was room for a whole chunk
 pub record IsBlock (dim : ℕ) (rows : List Placed) (words : List ℕ) (row_room word_room : ℕ) : Type 0 where

@@ -4,7 +4,8 @@ ghost use Rattle.std.specs.Prelude.{◌≡◌, ℕ, ◌+◌, ◌≤◌, ◌*◌,
 ghost use Rattle.row_types.specs.Bits.{AreWordsOf};
 ghost use Rattle.std.specs.List.{AllByRecursion};
 ghost use Rattle.std.specs.VecDeque.{deque_capacity};
-ghost use Rattle.growing_segment.specs.Tails.{HasDimension, IsColumn, vector_of, width_of};
+ghost use Rattle.log_model.specs.Places.{IsColumn, vector_of, width_of};
+ghost use Rattle.growing_segment.specs.Tails.{HasDimension};
 
 use log_model::TailRow;
 use row_types::{Memory, Row};

@@ -4,7 +4,8 @@ ghost use Rattle.std.specs.Prelude.{◌≡◌, ◌≤◌, ◌<◌, ◌*◌, ◌+
 ghost use Rattle.std.specs.Arc.{arc_value};
 ghost use Rattle.std.specs.List.{AllByRecursion};
 ghost use Rattle.std.specs.VecDeque.{deque_len, deque_capacity};
-ghost use Rattle.growing_segment.specs.Tails.{HasDimension, HasChunkDimension, IsWhole, IsColumn, vector_of, width_of, rows_in};
+ghost use Rattle.log_model.specs.Places.{IsColumn, vector_of, width_of};
+ghost use Rattle.growing_segment.specs.Tails.{HasDimension, HasChunkDimension, IsWhole, rows_in};
 
 use crate::blocks::{Block, CHUNK_ROWS};
 use log_model::TailRow;

@@ -2,8 +2,8 @@
 
 ghost use Rattle.std.specs.Prelude.{◌≡◌, ℕ, ◌+◌, ◌<◌, ◌≤◌, [], ◌∷◌, ◌++◌, length, slice_get, Some, IfOk, OnOk, OnErr};
 ghost use Rattle.std.specs.List.{AllByRecursion};
-ghost use Rattle.log_model.specs.Places.{placed};
-ghost use Rattle.growing_segment.specs.Tails.{AreOfTail, IsBefore};
+ghost use Rattle.log_model.specs.Places.{placed, PlacedBefore};
+ghost use Rattle.growing_segment.specs.Tails.{AreOfTail};
 
 use crate::blocks::CHUNK_ROWS;
 use crate::chunks::{Chunk, freeze_all, row_in};
@@ -69,7 +69,7 @@ impl Growing {
         requires room { 1 ≤ self.old.spare }
         requires few { length self.old.rows < 65536 }
         requires fits { length row.vector ≡ self.old.dim }
-        requires last { AllByRecursion (λ x. IsBefore x (placed position ts.0 row)) self.old.rows }
+        requires last { AllByRecursion (λ x. PlacedBefore x (placed position ts.0 row)) self.old.rows }
         ensures rows { self.new.rows ≡ self.old.rows ++ placed position ts.0 row ∷ [] }
         ensures dim { self.new.dim ≡ self.old.dim }
         ensures spare { self.old.spare ≡ self.new.spare + 1 }

@@ -7,11 +7,11 @@ use Rattle.row_types.specs.declared.rows.Kind.{Kind}
 use Rattle.row_types.specs.declared.rows.Kind.TheVariants as kind
 use Rattle.row_types.specs.declared.rows.Field.{Field}
 use Rattle.row_types.specs.declared.rows.Field.TheVariants as field
-use Rattle.log_model.specs.Places.{Placed, placed}
+use Rattle.log_model.specs.Places.{Placed, placed, vector_of}
 use Rattle.binlog_format.specs.declared.objects.Column.{Column}
 use Rattle.binlog_format.specs.declared.objects.Column.TheVariants.{Ints, Bools, Texts}
 use Rattle.binlog_format.specs.Inserts.{IsColumn}
-use Rattle.seg_sealed.specs.Segments.{kind_of, int_of, bool_of, text_of, column_of, field_at, columns_from, position_of, stamp_of, key_of, vector_of, fields_of, IsRowOf}
+use Rattle.seg_sealed.specs.Segments.{kind_of, int_of, bool_of, text_of, column_of, field_at, columns_from, position_of, stamp_of, key_of, fields_of, IsRowOf}
 use Rattle.seg_sealed.specs.Fields.{kind_in, first_or, first_in, behind, others_in, row_of, rows_in}
 
 pub cons_same : {A : Type 0} {x y : A} {xs ys : List A} → x ≡ y → xs ≡ ys → x ∷ xs ≡ y ∷ ys

@@ -8,13 +8,13 @@ use Rattle.row_types.specs.declared.rows.Kind.{Kind}
 use Rattle.row_types.specs.declared.rows.Kind.TheVariants as kind
 use Rattle.row_types.specs.declared.rows.Field.{Field}
 use Rattle.row_types.specs.declared.rows.Field.TheVariants as field
-use Rattle.log_model.specs.Places.{Placed, placed}
+use Rattle.log_model.specs.Places.{Placed, placed, PlacedBefore, Rise, vector_of}
 use Rattle.binlog_format.specs.declared.objects.Column.{Column}
 use Rattle.binlog_format.specs.declared.objects.Column.TheVariants.{Ints, Bools, Texts}
 use Rattle.binlog_format.specs.declared.objects.InsertLog.{InsertLog}
 use Rattle.binlog_format.specs.Fields.{InTurn}
 use Rattle.binlog_format.specs.Inserts.{IsInsertLog, IsAbove, after_position, IsStampFrom, after_stamp, IsColumn, IsShort}
-use Rattle.seg_sealed.specs.Segments.{SealedSegment, IsSealed, IsBefore, Rise, IsRowOf, IsShortField, kind_of, with_lists, int_of, bool_of, text_of, column_of, field_at, columns_from, position_of, stamp_of, key_of, vector_of, fields_of, log_of}
+use Rattle.seg_sealed.specs.Segments.{SealedSegment, IsSealed, IsRowOf, IsShortField, kind_of, with_lists, int_of, bool_of, text_of, column_of, field_at, columns_from, position_of, stamp_of, key_of, fields_of, log_of}
 use Rattle.seg_sealed.specs.Fields.{kind_in, first_in, others_in, rows_in, sealed_of}
 use Rattle.seg_sealed.proofs.ColumnLaws.{cons_same, AreSide, rows_back, kinds_of-columns, positions_back, stamps_back, keys_back, vectors_back, columns_of-rows}
 
@@ -41,7 +41,7 @@ log_back log is i = record {
 
 -- ---- the rules of a log from those of a segment
 
-positions_turn : (x : Placed) (rows : List Placed) → AllByRecursion (IsBefore x) rows → Rise rows → InTurn IsAbove after_position (Some x.position) (map position_of rows)
+positions_turn : (x : Placed) (rows : List Placed) → AllByRecursion (PlacedBefore x) rows → Rise rows → InTurn IsAbove after_position (Some x.position) (map position_of rows)
 positions_turn x [] all rise = tt
 positions_turn x (y ∷ rows) all rise = (all.0.lower, positions_turn y rows rise.0 rise.1)
 
@@ -49,7 +49,7 @@ positions_rise : (rows : List Placed) → Rise rows → InTurn IsAbove after_pos
 positions_rise [] rise = tt
 positions_rise (x ∷ rows) rise = (tt, positions_turn x rows rise.0 rise.1)
 
-stamps_turn : (x : Placed) (rows : List Placed) → AllByRecursion (IsBefore x) rows → Rise rows → InTurn IsStampFrom after_stamp x.ts (map stamp_of rows)
+stamps_turn : (x : Placed) (rows : List Placed) → AllByRecursion (PlacedBefore x) rows → Rise rows → InTurn IsStampFrom after_stamp x.ts (map stamp_of rows)
 stamps_turn x [] all rise = tt
 stamps_turn x (y ∷ rows) all rise = (all.0.not_later, stamps_turn y rows rise.0 rise.1)
 
@@ -124,7 +124,7 @@ above_all position ts x (y ∷ rows) p t above from =
     let b = from.0 in
     ((omega arith, omega arith), above_all position ts y rows (omega arith) (omega arith) above.1 from.1)
 
-before_all : (x : Placed) (rows : List Placed) → AllByRecursion (λ y. (x.position < y.position) × (x.ts ≤ y.ts)) rows → AllByRecursion (IsBefore x) rows
+before_all : (x : Placed) (rows : List Placed) → AllByRecursion (λ y. (x.position < y.position) × (x.ts ≤ y.ts)) rows → AllByRecursion (PlacedBefore x) rows
 before_all x [] all = tt
 before_all x (y ∷ rows) all = (record { lower = all.0.0; not_later = all.0.1 }, before_all x rows all.1)
 

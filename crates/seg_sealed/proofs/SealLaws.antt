@@ -14,13 +14,13 @@ use Rattle.row_types.specs.declared.rows.Field.TheVariants as field
 use Rattle.row_types.specs.Bits.{AreWordsOf}
 use Rattle.row_types.specs.Filters.{passes}
 use Rattle.row_types.specs.declared.filters.Filter.{Filter}
-use Rattle.log_model.specs.Places.{Placed, placed}
+use Rattle.log_model.specs.Places.{Placed, placed, IsColumn, width_of, vector_of}
 use Rattle.binlog_format.specs.declared.objects.Column.{Column}
 use Rattle.binlog_format.specs.declared.objects.Column.TheVariants.{Ints, Bools, Texts}
 use Rattle.binlog_format.specs.declared.objects.InsertLog.{InsertLog}
 use Rattle.binlog_format.specs.declared.objects.ListFile.{ListFile}
 use Rattle.binlog_format.specs.Inserts.{IsInsertLog}
-use Rattle.seg_sealed.specs.Segments.{SealedSegment, IsSealed, IsRowOf, IsColumn, kind_of, with_lists, sealed_rows, dim_of, kinds_of, width_of, position_of, stamp_of, key_of, vector_of, fields_of, columns_from, log_of}
+use Rattle.seg_sealed.specs.Segments.{SealedSegment, IsSealed, IsRowOf, kind_of, with_lists, sealed_rows, dim_of, kinds_of, position_of, stamp_of, key_of, fields_of, columns_from, log_of}
 use Rattle.seg_sealed.specs.Fields.{first_in, others_in, value_in, row_of, rows_in, sealed_of, vectors_in, log_in, KeepsColumns}
 use Rattle.seg_sealed.proofs.ColumnLaws.{cons_same}
 use Rattle.seg_sealed.proofs.WordLaws.{vectors_are, column-length, column-at}

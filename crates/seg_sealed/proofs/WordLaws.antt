@@ -7,7 +7,7 @@ use Rattle.std.proofs.Math.Nat.{zero-mul, suc-mul}
 use Rattle.std.specs.Int.{w64, to_le_bytes}
 use Rattle.row_types.proofs.BitLists.{bytes_in, bytes_in-push, bits-bytes_in, take-bits_in}
 use Rattle.row_types.specs.Bits.{bits_in, AreWordsOf}
-use Rattle.seg_sealed.specs.Segments.{IsColumn, width_of}
+use Rattle.log_model.specs.Places.{IsColumn, width_of}
 use Rattle.seg_sealed.specs.Fields.{vectors_in}
 
 cons_same : {A : Type 0} {x y : A} {xs ys : List A} → x ≡ y → xs ≡ ys → x ∷ xs ≡ y ∷ ys

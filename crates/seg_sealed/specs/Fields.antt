@@ -9,12 +9,12 @@ use Rattle.row_types.specs.declared.rows.Field.{Field}
 use Rattle.row_types.specs.declared.rows.Field.TheVariants as field
 use Rattle.row_types.specs.declared.rows.Row.{Row}
 use Rattle.row_types.specs.Bits.{bits_in}
-use Rattle.log_model.specs.Places.{Placed, placed}
+use Rattle.log_model.specs.Places.{Placed, placed, IsColumn, width_of}
 use Rattle.binlog_format.specs.declared.objects.Column.{Column}
 use Rattle.binlog_format.specs.declared.objects.Column.TheVariants.{Ints, Bools, Texts}
 use Rattle.binlog_format.specs.declared.objects.InsertLog.{InsertLog}
 use Rattle.binlog_format.specs.declared.objects.ListFile.{ListFile}
-use Rattle.seg_sealed.specs.Segments.{SealedSegment, IsSealed, IsColumn, with_lists, width_of, log_of}
+use Rattle.seg_sealed.specs.Segments.{SealedSegment, IsSealed, with_lists, log_of}
 use Rattle.seg_sealed.specs.Marks.{RowsRise}
 
 -- ---- rows in columns

@@ -1,5 +1,5 @@
 -- A sealed segment, and the insert log of its rows.
-use Rattle.std.specs.Prelude.{◌≡◌, ℕ, suc, ℤ, pos, slice_index_or, ◌+◌, ◌/◌, ◌^◌, ◌<◌, ◌≤◌, Bool, false, List, [], ◌∷◌, length, map, take, drop, Option, None}
+use Rattle.std.specs.Prelude.{◌≡◌, ℕ, suc, ℤ, pos, slice_index_or, ◌^◌, ◌<◌, ◌≤◌, Bool, false, List, [], ◌∷◌, length, map, Option, None}
 use Rattle.std.specs.Option.{IfSome}
 use Rattle.std.specs.List.{AllByRecursion, concat}
 use Rattle.hybrid_time.specs.declared.times.Timestamp.{Timestamp}
@@ -8,8 +8,8 @@ use Rattle.row_types.specs.declared.rows.Kind.{Kind}
 use Rattle.row_types.specs.declared.rows.Kind.TheVariants as kind
 use Rattle.row_types.specs.declared.rows.Field.{Field}
 use Rattle.row_types.specs.declared.rows.Field.TheVariants as field
-use Rattle.row_types.specs.Bits.{IsDimension, AreWordsOf}
-use Rattle.log_model.specs.Places.{Placed}
+use Rattle.row_types.specs.Bits.{IsDimension}
+use Rattle.log_model.specs.Places.{Placed, Rise, vector_of}
 use Rattle.binlog_format.specs.declared.objects.Column.{Column}
 use Rattle.binlog_format.specs.declared.objects.Column.TheVariants.{Ints, Bools, Texts}
 use Rattle.binlog_format.specs.declared.objects.InsertLog.{InsertLog}
@@ -26,16 +26,6 @@ pub record SealedSegment : Type 0 where
   pub lists : Option ListFile
 
 -- ---- the rules
-
--- a row may stand before another: its position is lower, and its timestamp is not higher
-pub record IsBefore (row later : Placed) : Type 0 where
-  pub lower : row.position < later.position
-  pub not_later : row.ts ≤ later.ts
-
--- each row may stand before each later one
-abbrev pub Rise : List Placed → Type 0
-Rise [] = Unit {0}
-Rise (x ∷ rows) = AllByRecursion (IsBefore x) rows × Rise rows
 
 abbrev pub kind_of : Field → Kind
 kind_of (field.Int n) = kind.Int
@@ -97,20 +87,8 @@ stamp_of x = record { 0 = x.ts }
 abbrev pub key_of : Placed → Key
 key_of x = x.row.key
 
-abbrev pub vector_of : Placed → List Bool
-vector_of x = x.row.vector
-
 abbrev pub fields_of : Placed → List Field
 fields_of x = x.row.fields
-
--- the number of words of a vector
-abbrev pub width_of : ℕ → ℕ
-width_of dim = (dim + 63) / 64
-
--- one column of words: those of each row's vector, `width` words a row, one row after another
-abbrev pub IsColumn : ℕ → List (List Bool) → List ℕ → Type 0
-IsColumn width [] words = words ≡ []
-IsColumn width (vector ∷ vectors) words = (width ≤ length words) × AreWordsOf vector (take width words) × IsColumn width vectors (drop width words)
 
 -- the value of a field of a kind; a field of another kind has none, and counts as 0, false or empty
 abbrev pub int_of : Field → ℤ

@@ -2,8 +2,8 @@
 
 ghost use Rattle.std.specs.Prelude.{◌≡◌, ◌≤◌, ◌<◌, length, map, IfOk};
 ghost use Rattle.std.specs.List.{AllByRecursion};
-ghost use Rattle.log_model.specs.Places.{Placed};
-ghost use Rattle.seg_sealed.specs.Segments.{IsColumn, kind_of, width_of, position_of, stamp_of, key_of, vector_of, fields_of, field_at, int_of, bool_of, text_of, column_of, columns_from};
+ghost use Rattle.log_model.specs.Places.{Placed, IsColumn, width_of, vector_of};
+ghost use Rattle.seg_sealed.specs.Segments.{kind_of, position_of, stamp_of, key_of, fields_of, field_at, int_of, bool_of, text_of, column_of, columns_from};
 
 use binlog_format::Column;
 use hybrid_time::Timestamp;

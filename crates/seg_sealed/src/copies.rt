@@ -3,7 +3,7 @@
 ghost use Rattle.std.specs.Prelude.{◌≡◌, ◌≤◌, ◌*◌, length, IfOk};
 ghost use Rattle.std.specs.List.{AllByRecursion};
 ghost use Rattle.row_types.specs.Bits.{IsDimension};
-ghost use Rattle.seg_sealed.specs.Segments.{IsColumn, width_of};
+ghost use Rattle.log_model.specs.Places.{IsColumn, width_of};
 ghost use Rattle.seg_sealed.specs.Fields.{vectors_in};
 
 use crate::rows::vector_in;

@@ -3,7 +3,7 @@
 ghost use Rattle.std.specs.Prelude.{◌≡◌, ◌+◌, ◌*◌, ◌≤◌, take, drop, map, length, pos, true, false, slice_index_or, slice_get, [], IfOk};
 ghost use Rattle.row_types.specs.Bits.{bits_in, IsDimension};
 ghost use Rattle.row_types.specs.Filters.{value_at, field_cmp, meets, is_met, matches, is_among, passes, any_passes, all_pass};
-ghost use Rattle.seg_sealed.specs.Segments.{width_of};
+ghost use Rattle.log_model.specs.Places.{width_of};
 ghost use Rattle.seg_sealed.specs.Fields.{value_in};
 
 use binlog_format::Column;

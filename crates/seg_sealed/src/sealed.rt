@@ -5,7 +5,8 @@ ghost use Rattle.std.specs.Option.{option_map, option_copied, IfSome};
 ghost use Rattle.row_types.specs.Bits.{AreWordsOf};
 ghost use Rattle.row_types.specs.Filters.{passes};
 ghost use Rattle.binlog_format.specs.Inserts.{IsInsertLog};
-ghost use Rattle.seg_sealed.specs.Segments.{IsSealed, SealedSegment, AreListsOf, IsColumn, with_lists, sealed_rows, width_of, position_of, stamp_of, key_of, vector_of, log_of};
+ghost use Rattle.log_model.specs.Places.{IsColumn, width_of, vector_of};
+ghost use Rattle.seg_sealed.specs.Segments.{IsSealed, SealedSegment, AreListsOf, with_lists, sealed_rows, position_of, stamp_of, key_of, log_of};
 ghost use Rattle.seg_sealed.specs.Fields.{sealed_of};
 
 use crate::columns::{columns_of, heads_of, positions_of, stamps_of};

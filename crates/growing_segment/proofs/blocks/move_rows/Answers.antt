@@ -3,8 +3,8 @@ use Rattle.std.proofs.lemmas.List.{take_at, drop_at}
 use Rattle.std.specs.List.{AllByRecursion}
 use Rattle.row_types.specs.Bits.{AreWordsOf}
 use Rattle.row_types.specs.declared.rows.Row.{Row}
-use Rattle.log_model.specs.Places.{Placed}
-use Rattle.growing_segment.specs.Tails.{HasDimension, width_of}
+use Rattle.log_model.specs.Places.{Placed, width_of}
+use Rattle.growing_segment.specs.Tails.{HasDimension}
 use Rattle.growing_segment.proofs.Columns.{column-more}
 use Rattle.growing_segment.proofs.blocks.move_rows.Goals as goal
 

@@ -1,7 +1,8 @@
 use Rattle.std.proofs.Common.{◌≡◌, ◌*◌, ◌≤◌, ◌++◌, vec_len, vec_capacity, map}
 use Rattle.std.specs.List.{AllByRecursion}
 use Rattle.std.specs.VecDeque.{deque_capacity}
-use Rattle.growing_segment.specs.Tails.{HasDimension, vector_of, IsColumn, width_of}
+use Rattle.log_model.specs.Places.{vector_of, IsColumn, width_of}
+use Rattle.growing_segment.specs.Tails.{HasDimension}
 use Rattle.growing_segment.proofs.blocks.move_rows.Given as goal
 
 abbrev pub invariant-rows : goal.invariant-rows

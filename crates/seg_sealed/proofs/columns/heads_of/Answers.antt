@@ -2,8 +2,8 @@ use Rattle.std.proofs.Common.{◌≡◌, ℕ, List, Bool, [], ◌∷◌, ◌++�
 use Rattle.row_types.specs.declared.rows.Key.{Key}
 use Rattle.row_types.specs.declared.rows.Row.{Row}
 use Rattle.row_types.specs.Bits.{AreWordsOf}
-use Rattle.log_model.specs.Places.{Placed}
-use Rattle.seg_sealed.specs.Segments.{IsColumn, width_of, key_of, vector_of}
+use Rattle.log_model.specs.Places.{Placed, IsColumn, width_of, vector_of}
+use Rattle.seg_sealed.specs.Segments.{key_of}
 use Rattle.seg_sealed.proofs.ColumnSteps.{more, one_more, whole, all_at}
 use Rattle.seg_sealed.proofs.WordLaws.{column-push, words_long}
 use Rattle.seg_sealed.proofs.columns.heads_of.Goals as goal

@@ -1,5 +1,6 @@
 use Rattle.std.proofs.Common.{◌≡◌, map, take}
-use Rattle.seg_sealed.specs.Segments.{IsColumn, width_of, key_of, vector_of}
+use Rattle.log_model.specs.Places.{IsColumn, width_of, vector_of}
+use Rattle.seg_sealed.specs.Segments.{key_of}
 use Rattle.seg_sealed.proofs.columns.heads_of.Given as goal
 
 abbrev pub invariant-rows : goal.invariant-rows

@@ -3,7 +3,7 @@ use Rattle.std.proofs.lemmas.Option.{slice_get_read, get_or_from_slice_get}
 use Rattle.std.proofs.lemmas.List.{take_more}
 use Rattle.std.proofs.Math.Seq.{take-length}
 use Rattle.row_types.specs.Bits.{AreWordsOf}
-use Rattle.seg_sealed.specs.Segments.{IsColumn, width_of}
+use Rattle.log_model.specs.Places.{IsColumn, width_of}
 use Rattle.seg_sealed.proofs.ColumnSteps.{all_at}
 use Rattle.seg_sealed.proofs.WordLaws.{column-push, words_long}
 use Rattle.seg_sealed.proofs.copies.pack.Goals as goal

@@ -1,5 +1,5 @@
 use Rattle.std.proofs.Common.{◌≡◌, take}
-use Rattle.seg_sealed.specs.Segments.{IsColumn, width_of}
+use Rattle.log_model.specs.Places.{IsColumn, width_of}
 use Rattle.seg_sealed.proofs.copies.pack.Given as goal
 
 abbrev pub invariant-vectors : goal.invariant-vectors

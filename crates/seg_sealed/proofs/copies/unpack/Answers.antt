@@ -1,6 +1,6 @@
 use Rattle.std.proofs.Common.{◌≡◌, ◌-◌, ◌+◌, ◌∷◌, ◌++◌, [], ℕ, suc, List, Bool, take, drop, subst, sym, ap, ◌∙◌, arith, rules, refl}
 use Rattle.row_types.specs.Bits.{bits_in}
-use Rattle.seg_sealed.specs.Segments.{width_of}
+use Rattle.log_model.specs.Places.{width_of}
 use Rattle.seg_sealed.proofs.WordLaws.{IsUnpacked, unpacked_more, unpacked_fits}
 use Rattle.seg_sealed.proofs.copies.unpack.Goals as goal
 

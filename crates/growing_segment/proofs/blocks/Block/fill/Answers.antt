@@ -1,7 +1,7 @@
 use Rattle.std.proofs.Common.{◌≡◌, ℕ, List, [], ◌≤◌, ◌*◌, arith, ap, sym, subst, ◌∙◌, vec_capacity, map}
 use Rattle.std.specs.List.{AllByRecursion}
-use Rattle.log_model.specs.Places.{Placed}
-use Rattle.growing_segment.specs.Tails.{Rows, HasDimension, vector_of, IsColumn, width_of}
+use Rattle.log_model.specs.Places.{Placed, vector_of, IsColumn, width_of}
+use Rattle.growing_segment.specs.Tails.{Rows, HasDimension}
 use Rattle.growing_segment.proofs.Columns.{first_dim_is, all_take}
 use Rattle.growing_segment.proofs.blocks.Block.fill.Goals as goal
 

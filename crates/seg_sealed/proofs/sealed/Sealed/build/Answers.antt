@@ -1,9 +1,9 @@
 use Rattle.std.proofs.Common.{◌≡◌, ℕ, List, length, map, Some, None, refl, sym, ap, subst, ◌∙◌}
 use Rattle.row_types.specs.declared.rows.Row.{Row}
 use Rattle.row_types.specs.declared.rows.Field.{Field}
-use Rattle.log_model.specs.Places.{Placed}
+use Rattle.log_model.specs.Places.{Placed, IsColumn, width_of, vector_of}
 use Rattle.binlog_format.specs.declared.objects.InsertLog.{InsertLog}
-use Rattle.seg_sealed.specs.Segments.{SealedSegment, IsColumn, kind_of, sealed_rows, with_lists, width_of, fields_of, vector_of, columns_from, log_of}
+use Rattle.seg_sealed.specs.Segments.{SealedSegment, kind_of, sealed_rows, with_lists, fields_of, columns_from, log_of}
 use Rattle.seg_sealed.specs.Fields.{sealed_of, log_in, KeepsColumns}
 use Rattle.seg_sealed.proofs.SealLaws.{dim_first, kinds_first, log_is, kept_of, seen_as}
 use Rattle.seg_sealed.proofs.sealed.Sealed.build.Goals as goal

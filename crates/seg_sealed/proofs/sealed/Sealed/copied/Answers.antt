@@ -1,5 +1,5 @@
 use Rattle.std.proofs.Common.{◌≡◌, ◌≤◌, ◌*◌, length, ap, rules, arith}
-use Rattle.seg_sealed.specs.Segments.{width_of}
+use Rattle.log_model.specs.Places.{width_of}
 use Rattle.seg_sealed.proofs.SealLaws.{words_whole}
 use Rattle.seg_sealed.proofs.sealed.Sealed.copied.Goals as goal
 

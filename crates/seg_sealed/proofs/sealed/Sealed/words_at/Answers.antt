@@ -1,7 +1,8 @@
 use Rattle.std.proofs.Common.{◌≡◌, ◌+◌, ◌*◌, ◌≤◌, ◌<◌, ℕ, List, Bool, length, map, take, drop, slice_get, refl, sym, ap, subst, ◌∙◌, arith}
 use Rattle.std.proofs.lemmas.List.{length-map}
 use Rattle.binlog_format.specs.declared.objects.InsertLog.{InsertLog}
-use Rattle.seg_sealed.specs.Segments.{SealedSegment, IsColumn, width_of, vector_of, position_of}
+use Rattle.log_model.specs.Places.{IsColumn, width_of, vector_of}
+use Rattle.seg_sealed.specs.Segments.{SealedSegment, position_of}
 use Rattle.seg_sealed.specs.Fields.{vectors_in}
 use Rattle.seg_sealed.proofs.SealLaws.{window_fits, words_of-row}
 use Rattle.seg_sealed.proofs.sealed.Sealed.words_at.Goals as goal
