@@ -1,0 +1,3 @@
+pub mod Getting
+pub mod Reading
+pub mod Differing
