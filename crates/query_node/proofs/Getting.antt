@@ -20,7 +20,8 @@ use Rattle.query_node.specs.Fetching.{IsFirstDifference, IsReached, IsLost, Answ
 -- ---- one object
 
 -- an answer was got
-pub one_got : {T : Type 0} (x : Object) (k l : Option Objects) (answer : Option (List ℕ)) (r : Result T FetchError) → WhereTold k l (λ objects _. answer ≡ fin.get objects x.name)
+pub one_got : {T : Type 0} (x : Object) (k l : Option Objects) (answer : Option (List ℕ)) (r : Result T FetchError)
+    → WhereTold k l (λ objects _. answer ≡ fin.get objects x.name)
     → ((given : Given) → given x.name ≡ answer → Answers (x ∷ []) given r) → Fetches (x ∷ []) k r
 one_got x None l answer r found answers = record { given = λ name. answer; told = tt; answers = answers (λ name. answer) refl }
 one_got x (Some k) None answer r found answers = absurd found
@@ -78,13 +79,16 @@ reached_other [] given object first apart reached = absurd reached
 reached_other (x ∷ xs) given object first apart (inl e) = subst (λ (y : Object). y.name ≢ first) e apart.0
 reached_other (x ∷ xs) given object first apart (inr r) = reached_other xs given object first apart.1 r.1
 
-name_other : (xs : List Object) (given : Given) (object : Object) (first name : ℕ) → IsOtherName xs first → IsReached xs given object → object.name ≡ name → name ≢ first
+name_other : (xs : List Object) (given : Given) (object : Object) (first name : ℕ) → IsOtherName xs first → IsReached xs given object → object.name ≡ name
+    → name ≢ first
 name_other xs given object first name apart reached named = subst (λ (n : ℕ). n ≢ first) named (reached_other xs given object first apart reached)
 
-module _ {T : Type 0} (x : Object) (xs : List Object) (g h : Given) (apart : IsOtherName xs x.name) (same : (name : ℕ) → name ≢ x.name → g name ≡ h name) (intact : IsIntact g x) where
+module _ {T : Type 0} (x : Object) (xs : List Object) (g h : Given) (apart : IsOtherName xs x.name)
+    (same : (name : ℕ) → name ≢ x.name → g name ≡ h name) (intact : IsIntact g x) where
   answers_more : (r : Result T FetchError) → Answers xs h r → Answers (x ∷ xs) g r
   answers_more (Ok value) a = (intact, holds_same g h x.name same xs apart a)
-  answers_more (Err (KeepFault name)) a = record { object = a.object; reached = inr (intact, reached_same g h x.name same xs a.object apart a.reached); named = a.named }
+  answers_more (Err (KeepFault name)) a =
+      record { object = a.object; reached = inr (intact, reached_same g h x.name same xs a.object apart a.reached); named = a.named }
   answers_more (Err (Lost name)) a =
       record {
         object = a.object;
@@ -111,20 +115,9 @@ fetches_more x xs k l value r apart one stays others =
     record {
       given = given;
       told = either_told x.name one.given others.given k l one.told stays others.told;
-      answers = answers_more x xs given others.given apart (either_other x.name one.given others.given) (either_first x.name one.given others.given ∙ one.answers.0) r others.answers;
+      answers = answers_more x xs given others.given apart (either_other x.name one.given others.given)
+          (either_first x.name one.given others.given ∙ one.answers.0) r others.answers;
     }
-
-reached_front : (xs ys : List Object) (given : Given) (object : Object) → IsReached xs given object → IsReached (xs ++ ys) given object
-reached_front [] ys given object reached = absurd reached
-reached_front (x ∷ xs) ys given object (inl e) = inl e
-reached_front (x ∷ xs) ys given object (inr r) = inr (r.0, reached_front xs ys given object r.1)
-
-answers_front : (S T : Type 0) (xs ys : List Object) (given : Given) (e : FetchError) → Answers {T = S} xs given (Err e) → Answers {T = T} (xs ++ ys) given (Err e)
-answers_front S T xs ys given (KeepFault name) a = record { object = a.object; reached = reached_front xs ys given a.object a.reached; named = a.named }
-answers_front S T xs ys given (Lost name) a = record { object = a.object; reached = reached_front xs ys given a.object a.reached; named = a.named; nothing = a.nothing }
-answers_front S T xs ys given (Damaged name at want got) a =
-    record { object = a.object; reached = reached_front xs ys given a.object a.reached; named = a.named; bytes = a.bytes; found = a.found; first = a.first }
-answers_front S T xs ys given Memory a = tt
 
 answers_failed : (S T : Type 0) (xs : List Object) (given : Given) (e : FetchError) → Answers {T = S} xs given (Err e) → Answers {T = T} xs given (Err e)
 answers_failed S T xs given (KeepFault name) a = a
@@ -137,14 +130,11 @@ pub fetches_failed : (S T : Type 0) (xs : List Object) (k : Option Objects) (e :
 fetches_failed S T xs k e f = record { given = f.given; told = f.told; answers = answers_failed S T xs f.given e f.answers }
 
 -- no lists were asked for
-pub none_listed : {T : Type 0} (segment : ℕ) (lists : Option ListFile) (object : Option Object) (k : Option Objects) (v : T) → object ≡ option_map (list_object segment) lists
+pub none_listed : {T : Type 0} (segment : ℕ) (lists : Option ListFile) (object : Option Object) (k : Option Objects) (v : T)
+    → object ≡ option_map (list_object segment) lists
     → ((x : Object) → object ≡ Some x → ⊥) → Fetches (list_objects segment lists) k (Ok v)
 none_listed segment None object k v e none = none_got [] k (Ok v) (λ given. tt)
 none_listed segment (Some file) object k v e none = absurd (none (list_object segment file) e)
-
--- what stopped within the first ones stopped within all
-pub fetches_front : (S T : Type 0) (xs ys : List Object) (k : Option Objects) (e : FetchError) → Fetches {T = S} xs k (Err e) → Fetches {T = T} (xs ++ ys) k (Err e)
-fetches_front S T xs ys k e f = record { given = f.given; told = f.told; answers = answers_front S T xs ys f.given e f.answers }
 
 -- another value that is made of the same bytes
 pub fetches_made : {S T : Type 0} (xs : List Object) (k : Option Objects) (v : S) (w : T) → Fetches xs k (Ok v) → Fetches xs k (Ok w)
@@ -160,7 +150,8 @@ held_at (x ∷ xs) kept given object held (inr r) = held_at xs kept given object
 no_difference : (bytes found : List ℕ) (at : ℕ) (want got : Option ℕ) → Some bytes ≡ Some found → IsFirstDifference bytes found at want got → ⊥
 no_difference bytes found at want got e d = let same : bytes ≡ found = cc in d.differ (d.want_is ∙ ap (λ (bs : List ℕ). slice_get bs at) same ∙ sym d.got_is)
 
-unharmed : {T : Type 0} (xs : List Object) (kept given : Given) (r : Result T FetchError) → ((name : ℕ) → given name ≡ kept name) → Holds kept xs → Answers xs given r → IsUnharmed r
+unharmed : {T : Type 0} (xs : List Object) (kept given : Given) (r : Result T FetchError) → ((name : ℕ) → given name ≡ kept name) → Holds kept xs
+    → Answers xs given r → IsUnharmed r
 unharmed xs kept given (Ok value) told held a = tt
 unharmed xs kept given (Err (KeepFault name)) told held a = tt
 unharmed xs kept given (Err (Lost name)) told held a =
@@ -173,6 +164,7 @@ unharmed xs kept given (Err (Damaged name at want got)) told held a =
     no_difference a.object.bytes a.bytes at want got (sym there ∙ here) a.first
 unharmed xs kept given (Err Memory) told held a = tt
 
-pub fetches_unharmed : {T : Type 0} (xs : List Object) (k : Option Objects) (r : Result T FetchError) → Fetches xs k r → IfSome k (λ kept. Holds (fin.get kept) xs → IsUnharmed r)
+pub fetches_unharmed : {T : Type 0} (xs : List Object) (k : Option Objects) (r : Result T FetchError) → Fetches xs k r
+    → IfSome k (λ kept. Holds (fin.get kept) xs → IsUnharmed r)
 fetches_unharmed xs None r f = tt
 fetches_unharmed xs (Some kept) r f = λ held. unharmed xs (fin.get kept) f.given r f.told held f.answers

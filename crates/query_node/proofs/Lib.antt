@@ -1,3 +1,2 @@
 pub mod Getting
 pub mod Reading
-pub mod Differing

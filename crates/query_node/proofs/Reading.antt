@@ -28,8 +28,10 @@ pub record Listed (number rows : ℕ) (lists : Option ListFile) (bytes : List �
   pub valid : AreListsOf number rows file
 
 -- bytes that were got for the list file of a segment spell it
-pub listed : (number rows : ℕ) (lists : Option ListFile) (object : Option Object) (x : Object) (here bytes : List ℕ) → object ≡ option_map (list_object number) lists → object ≡ Some x
-    → ((file : ListFile) → lists ≡ Some file → IfSome object (λ y. SpellsLists y.bytes file)) → IfSome lists (AreListsOf number rows) → here ≡ bytes → bytes ≡ x.bytes
+pub listed : (number rows : ℕ) (lists : Option ListFile) (object : Option Object) (x : Object) (here bytes : List ℕ)
+    → object ≡ option_map (list_object number) lists → object ≡ Some x
+    → ((file : ListFile) → lists ≡ Some file → IfSome object (λ y. SpellsLists y.bytes file)) → IfSome lists (AreListsOf number rows) → here ≡ bytes
+    → bytes ≡ x.bytes
     → Listed number rows lists here
 listed number rows None object x here bytes made there spells valid e f = let no : ⊥ = cc in absurd no
 listed number rows (Some file) object x here bytes made there spells valid e f =
@@ -37,5 +39,6 @@ listed number rows (Some file) object x here bytes made there spells valid e f =
     record { file = file; there = refl; spelled = subst (λ (bs : List ℕ). SpellsLists bs file) (sym (e ∙ f)) own; valid = valid }
 
 -- a segment without lists, with its lists again
-pub lists_back : (own sealed made : SealedSegment) (file : ListFile) → sealed ≡ with_lists own None → own.lists ≡ Some file → made ≡ with_lists sealed (Some file) → made ≡ own
+pub lists_back : (own sealed made : SealedSegment) (file : ListFile) → sealed ≡ with_lists own None → own.lists ≡ Some file
+    → made ≡ with_lists sealed (Some file) → made ≡ own
 lists_back own sealed made file without there e = e ∙ ap (λ (s : SealedSegment). with_lists s (Some file)) without ∙ ap (with_lists own) (sym there)

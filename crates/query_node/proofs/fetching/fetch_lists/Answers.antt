@@ -14,13 +14,13 @@ returns-in_default-clause-fetched g c = none_listed _ c.args.part.now.sealed.lis
 pub with_lists-requires : goal.with_lists-requires
 with_lists-requires g c =
     let S = c.args.part.now.sealed in
-    let l = listed S.number (length S.rows) S.lists c.in_ok-object.field-0 c.in-Some.object c.deref.result.now c.in-Ok.bytes.items c.in_ok-object.ensures.object c.in-Some.is
-    c.in_ok-object.ensures.spells c.in_ok-object.ensures.lists c.deref.ensures.value c.in-Ok.ensures.found in
+    let l = listed S.number (length S.rows) S.lists c.in_ok-object.field-0 c.in-Some.object c.deref.result.now c.in-Ok.bytes.items
+    c.in_ok-object.ensures.object c.in-Some.is c.in_ok-object.ensures.spells c.in_ok-object.ensures.lists c.deref.ensures.value c.in-Ok.ensures.found in
     (l.file, l.spelled, subst (λ (s : SealedSegment). AreListsOf s.number (length s.rows) l.file) (sym c.requires) l.valid)
 
 pub returns-in-Ok-clause-sealed : goal.returns-in-Ok-clause-sealed
 returns-in-Ok-clause-sealed g c =
     let S = c.args.part.now.sealed in
-    let l = listed S.number (length S.rows) S.lists c.in_ok-object.field-0 c.in-Some.object c.deref.result.now c.in-Ok.bytes.items c.in_ok-object.ensures.object c.in-Some.is
-    c.in_ok-object.ensures.spells c.in_ok-object.ensures.lists c.deref.ensures.value c.in-Ok.ensures.found in
+    let l = listed S.number (length S.rows) S.lists c.in_ok-object.field-0 c.in-Some.object c.deref.result.now c.in-Ok.bytes.items
+    c.in_ok-object.ensures.object c.in-Some.is c.in_ok-object.ensures.spells c.in_ok-object.ensures.lists c.deref.ensures.value c.in-Ok.ensures.found in
     lists_back S c.args.sealed _ l.file c.requires l.there (c.in_ok-with_lists-in-Ok.ensures l.file l.spelled)

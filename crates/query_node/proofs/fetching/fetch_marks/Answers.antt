@@ -13,7 +13,8 @@ pub returns-in-Ok-clause-deaths : goal.returns-in-Ok-clause-deaths
 returns-in-Ok-clause-deaths g c =
     let P = c.args.part.now in
     let log = delete_log_of P.sealed.number P.applied P.deaths in
-    c.in_ok-marks_of-in-Ok.ensures.deaths log (spells_here log _ _ _ c.deref.ensures.value c.in-Ok.ensures.found c.in_ok-object.ensures.spells) ∙ deaths_back P.deaths
+    let here = spells_here log _ _ _ c.deref.ensures.value c.in-Ok.ensures.found c.in_ok-object.ensures.spells in
+    c.in_ok-marks_of-in-Ok.ensures.deaths log here ∙ deaths_back P.deaths
 
 pub returns-in-Ok-clause-applied : goal.returns-in-Ok-clause-applied
 returns-in-Ok-clause-applied g c =
@@ -25,5 +26,6 @@ pub returns-in-Ok-clause-below : goal.returns-in-Ok-clause-below
 returns-in-Ok-clause-below g c =
     let P = c.args.part.now in
     let log = delete_log_of P.sealed.number P.applied P.deaths in
-    let same = c.in_ok-marks_of-in-Ok.ensures.deaths log (spells_here log _ _ _ c.deref.ensures.value c.in-Ok.ensures.found c.in_ok-object.ensures.spells) ∙ deaths_back P.deaths in
+    let here = spells_here log _ _ _ c.deref.ensures.value c.in-Ok.ensures.found c.in_ok-object.ensures.spells in
+    let same = c.in_ok-marks_of-in-Ok.ensures.deaths log here ∙ deaths_back P.deaths in
     subst (AreDeathsOf (length P.sealed.rows)) (sym same) c.in_ok-object.ensures.deaths
