@@ -101,10 +101,14 @@ impl PlainRun {
     }
 
     /// Ends the run: counts the keys that are live behind all writes, the rows of the tail, and the
-    /// segments that wait. Draws one number, at or above the moment's first timestamp; takes no memory.
+    /// segments, which all wait. Draws one number, at or above the moment's first timestamp; takes no
+    /// memory.
     pub fn end(self, moment: u64) -> MeetReply
         ensures ends { (collection : Collection) → IsRunOf collection self → Ends (start_of collection) (plain_of self) result }
         ensures moment { of_moment moment ≤ result.ts.0 }
+        ensures waiting { result.waiting ≡ (plain_of self).tail.segments }
+        ensures nodes { (result.node_rows ≡ 0) × (result.node_live ≡ 0) }
+        ensures failed { result.failed ≡ 0 }
     {
         MeetReply {
             ts: Timestamp(self.lifted(moment)),
