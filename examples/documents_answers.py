@@ -4,6 +4,7 @@
 
 The log is a list of entries. The live rows at a timestamp are the entries up to it, applied in order. The
 hits of a search are the live rows that pass its filter, by Jaccard distance and then by key, the first k.
+A row that the log gains joins the tail, which becomes a segment at SEAL_ROWS rows.
 """
 
 import functools
@@ -11,6 +12,8 @@ import json
 import re
 import sys
 from fractions import Fraction
+
+SEAL_ROWS = 1024
 
 log = []  # (timestamp, operation, key, row)
 
@@ -78,7 +81,7 @@ def print_line(answer):
 
 def main():
     last = 0  # the last number that was drawn; under `--still` all moments are 0
-    tick = mine = 0
+    tick = mine = tail = segments = 0
 
     def draw():
         nonlocal last
@@ -115,13 +118,18 @@ def main():
             mine = draw()
             row = None if op == "delete" else {"bits": bits(request["vector"]), "fields": fields}
             log.append((mine, op, key, row))
+            if op == "upsert" or op == "insert" and not was:
+                tail += 1
+            if tail == SEAL_ROWS:
+                tail, segments = 0, segments + 1
             if op == "insert":
                 answer |= {"answer": "exists" if was else "ok", "ts": mine}
             else:
                 answer |= {"answer": "ok", "ts": mine, "was": was}
         print_line(answer)
     end = draw()
-    print_line({"answer": "end", "live": len(live(end)), "ts": end})
+    counts = {"live": len(live(end)), "tail": tail, "waiting": segments, "node_live": 0, "node_rows": 0, "failed": 0}
+    print_line({"answer": "end", "ts": end} | counts)
 
 
 main()

@@ -114,7 +114,10 @@ answer_data line (answers.Met reply) =
     answered (codes "met") (member (codes "failed") (whole reply.failed) (numbered line (member (codes "live") (whole reply.live)
     (member (codes "node_live") (whole reply.node_live) (member (codes "node_rows") (whole reply.node_rows) (member (codes "tail") (whole reply.tail)
     (member (codes "ts") (stamp_data reply.ts) (member (codes "waiting") (whole reply.waiting) no_members))))))))
-answer_data line (answers.End reply) = answered (codes "end") (member (codes "live") (whole reply.live) (member (codes "ts") (stamp_data reply.ts) no_members))
+answer_data line (answers.End reply) =
+    answered (codes "end") (member (codes "failed") (whole reply.failed) (member (codes "live") (whole reply.live)
+    (member (codes "node_live") (whole reply.node_live) (member (codes "node_rows") (whole reply.node_rows) (member (codes "tail") (whole reply.tail)
+    (member (codes "ts") (stamp_data reply.ts) (member (codes "waiting") (whole reply.waiting) no_members)))))))
 answer_data line (answers.Refused reason) = answered (codes "refused") (numbered line (member (codes "reason") (string (name_of reason)) no_members))
 
 -- the text of the line that answers input line `line`

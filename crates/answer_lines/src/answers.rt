@@ -30,7 +30,7 @@ pub struct Named {
     pub names: List<Text>,
 }
 
-/// What is counted when all work has come to rest.
+/// What is counted when all work has come to rest, at a meet and at the end.
 #[derive(Debug, Clone, Copy, PartialEq, Eq)]
 pub struct MeetReply {
     pub ts: Timestamp,
@@ -46,14 +46,6 @@ pub struct MeetReply {
     pub node_live: u64,
     /// The failures since the last meet.
     pub failed: u64,
-}
-
-/// What is counted when the input has ended.
-#[derive(Debug, Clone, Copy, PartialEq, Eq)]
-pub struct EndReply {
-    pub ts: Timestamp,
-    /// The keys that are live at `ts`.
-    pub live: u64,
 }
 
 /// The answer to a line.
@@ -91,7 +83,7 @@ pub enum Answer {
     /// All work has come to rest.
     Met(MeetReply),
     /// The input has ended.
-    End(EndReply),
+    End(MeetReply),
     /// The line is no request.
     Refused(Reason),
 }

@@ -11,6 +11,6 @@ mod reasons;
 mod tests;
 mod values;
 
-pub use crate::answers::{Answer, EndReply, MeetReply, Named, WriteReply, Wrote};
+pub use crate::answers::{Answer, MeetReply, Named, WriteReply, Wrote};
 pub use crate::lines::line;
 pub use crate::reasons::Reason;

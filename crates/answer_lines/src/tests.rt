@@ -1,6 +1,6 @@
 //! Worked examples: one line of each kind.
 
-use crate::{Answer, EndReply, MeetReply, Named, Reason, WriteReply, Wrote, line};
+use crate::{Answer, MeetReply, Named, Reason, WriteReply, Wrote, line};
 use hybrid_time::Timestamp;
 use row_types::{BitVector, Distance, Field, Hit, Key, List, Row, Text};
 use std::test::Fail;
@@ -106,9 +106,14 @@ fn the_other_answers_are_shown(rt: HostRuntime) -> Result<(), Fail> {
         node_live: 2,
         failed: 0,
     };
-    let end = EndReply {
+    let end = MeetReply {
         ts: Timestamp(u64::MAX),
-        live: 1,
+        live: 3,
+        tail: 1,
+        waiting: 2,
+        node_rows: 5,
+        node_live: 4,
+        failed: 6,
     };
     for (answer, want) in [
         (Answer::Created, r#"{"answer":"created","line":1}"#),
@@ -144,7 +149,7 @@ fn the_other_answers_are_shown(rt: HostRuntime) -> Result<(), Fail> {
         ),
         (
             Answer::End(end),
-            r#"{"answer":"end","live":1,"ts":18446744073709551615}"#,
+            r#"{"answer":"end","failed":6,"live":3,"node_live":4,"node_rows":5,"tail":1,"ts":18446744073709551615,"waiting":2}"#,
         ),
         (
             Answer::Refused(Reason::NoVector),

@@ -5,7 +5,7 @@ ghost use Rattle.row_types.specs.Spelling.{hex_of};
 ghost use Rattle.serde_json.specs.View.{view};
 ghost use Rattle.answer_lines.specs.Lines.{hit_data, hits_data, stamps_data, seals_data, field_data, fields_data, row_data, name_of, write_data, answer_data};
 
-use crate::answers::{Answer, EndReply, MeetReply, Named, WriteReply, Wrote};
+use crate::answers::{Answer, MeetReply, Named, WriteReply, Wrote};
 use crate::reasons::Reason;
 use hybrid_time::Timestamp;
 use row_types::{BitVector, Distance, Field, Hit, List, Memory, Text};
@@ -151,10 +151,19 @@ fn met(alloc: Global, number: u32, reply: MeetReply) -> Result<Value, AllocError
     })
 }
 
-fn ended(alloc: Global, reply: EndReply) -> Result<Value, AllocError>
-    ensures { IfOk result (λ v. view v ≡ answer_data 0 (Answer.End reply)) }
+fn ended(alloc: Global, counted: MeetReply) -> Result<Value, AllocError>
+    ensures { IfOk result (λ v. view v ≡ answer_data 0 (Answer.End counted)) }
 {
-    json!(in alloc; {"answer": "end", "live": reply.live, "ts": reply.ts.0})
+    json!(in alloc; {
+        "answer": "end",
+        "failed": counted.failed,
+        "live": counted.live,
+        "node_live": counted.node_live,
+        "node_rows": counted.node_rows,
+        "tail": counted.tail,
+        "ts": counted.ts.0,
+        "waiting": counted.waiting
+    })
 }
 
 fn hits(

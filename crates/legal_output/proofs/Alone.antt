@@ -1,26 +1,27 @@
 -- The run of one caller on a plain log is a phase.
-use Rattle.std.proofs.Common.{◌≡◌, ◌≢◌, ℕ, suc, ◌<◌, ◌≤◌, Bool, true, false, true≢false, cond, List, [], ◌∷◌, ◌++◌, map, refl, sym, ap, subst, ◌∙◌, arith}
+use Rattle.std.proofs.Common.{◌≡◌, ℕ, suc, ◌<◌, ◌≤◌, Bool, true, false, true≢false, cond, List, [], ◌∷◌, ◌++◌, map, refl, sym, ap, subst, ◌∙◌, arith}
 use Rattle.std.specs.Prelude.{Option, Some, None, max}
 use Rattle.std.specs.List.{AllByRecursion as Each, flat_map}
 use Rattle.std.proofs.lemmas.Bool.{eqb-true}
 use Rattle.std.proofs.lemmas.List.{append-nil}
 use Rattle.log_model.specs.declared.logs.Entry.{Entry}
 use Rattle.log_model.proofs.LogLaws.{each_implied}
-use Rattle.answer_lines.specs.declared.answers.EndReply.{EndReply}
+use Rattle.answer_lines.specs.declared.answers.MeetReply.{MeetReply}
 use Rattle.answer_lines.specs.declared.answers.Answer.{Answer}
 use Rattle.answer_lines.specs.declared.answers.Answer.TheVariants as answers
 use Rattle.request_lines.specs.declared.requests.Ask.{Ask}
 use Rattle.request_lines.specs.declared.requests.Ask.TheVariants as asks
-use Rattle.legal_output.specs.Lines.{Asked, Bad, Given, Finish, Line, Start, caller_of, met_of, ended_of, drawn, stamps, IsOfKind, IsAnswerTo}
-use Rattle.legal_output.specs.Printed.{ordered, entries_of, printed_events, past_for, past_of, all_stamps, lines_of, is_caller, greatest, all_ticks_shown, meet_behind, write_behind, phase_failures}
-use Rattle.legal_output.specs.Legal.{AtEach, Numbered, RefusedRightly, Replied, ShowsContent, HasContent, HasLevel, InOrder, CountsLive, AreTails, IsLegal}
-use Rattle.legal_output.specs.Runs.{Plain, Serves, Run, IsPlain, begun}
-use Rattle.legal_output.specs.Phases.{IsWithin, Running, tail_below, ShowsChannels, ContentByChannel, past_in_phase, Called, InPhase, PhaseFacts, EndFacts, Begins}
+use Rattle.legal_output.specs.Lines.{Asked, Given, Line, Start, caller_of, met_of, drawn, stamps, IsOfKind}
+use Rattle.legal_output.specs.Printed.{ordered, entries_of, printed_events, walk, past_for, past_of, all_stamps, lines_of, is_caller, greatest, all_ticks_shown, meet_behind, write_behind, phase_failures}
+use Rattle.legal_output.specs.Legal.{AtEach, Numbered, RefusedRightly, Replied, ShowsContent, HasContent, HasLevel, InOrder, Counts, AreTails, IsLegal}
+use Rattle.legal_output.specs.Runs.{Plain, Run, Ends, IsPlain, begun, end_line}
+use Rattle.legal_output.specs.Phases.{IsWithin, Running, tail_at, tail_below, ShowsChannels, ContentByChannel, past_in_phase, Called, InPhase, PhaseFacts, EndFacts, Begins}
 use Rattle.legal_output.proofs.Grown.{lines_of-push}
 use Rattle.legal_output.proofs.Pasts.{level_within, order_within}
 use Rattle.legal_output.proofs.Blocks.{at_each_both}
 use Rattle.legal_output.proofs.InPhases.{AreUnmet, meet_behind-block, at_each_prefix, at_each_two}
 use Rattle.legal_output.proofs.PhaseRuns.{whole_legal}
+use Rattle.legal_output.proofs.Tails.{all_happened, counts_tails, no_failures}
 use Rattle.legal_output.proofs.Stands.{Stands, at_start, ran, plain_meet, plain_seals, plain_pending}
 
 -- the values at the start, and those that a plain run has
@@ -116,43 +117,28 @@ content_channels : (start : Start) (log : List Entry) (asked : Asked) (answer : 
 content_channels start log (Given request) answer content = shows_channels start log request.what answer content
 content_channels start log asked answer content = tt
 
-ask_unended : (start : Start) (ask : Ask) (answer : Answer) → IsAnswerTo start ask answer → ended_of answer ≡ None
-ask_unended start (asks.Write write) (answers.End reply) kind = absurd kind
-ask_unended start (asks.Search query level wait) (answers.End reply) kind = absurd kind
-ask_unended start (asks.Get key level wait) (answers.End reply) kind = absurd kind
-ask_unended start asks.Tick (answers.End reply) kind = absurd kind
-ask_unended start asks.Seal (answers.End reply) kind = absurd kind
-ask_unended start asks.Meet (answers.End reply) kind = absurd kind
-ask_unended start ask answer kind = refl
-
-unended : (start : Start) (asked : Asked) (answer : Answer) → asked ≢ Finish → IsOfKind start asked answer → RefusedRightly asked answer → ended_of answer ≡ None
-unended start (Bad reason) answer more kind refusal = ap ended_of refusal
-unended start (Given request) answer more kind refusal = ask_unended start request.what answer kind
-unended start Finish answer more kind refusal = absurd (more refl)
-
 each_all : (start : Start) (last : Plain) (all block : List Line) → Each (λ line. IsOfKind start line.asked line.answer) block → Each (λ line. RefusedRightly line.asked line.answer) block
     → Each (λ line. Each (λ n. start.m0 < n) (drawn line.answer)) block → Each (λ line. Each (λ n. n < last.clock) (stamps line.answer)) block → Each (λ line. IsPlain line.answer) block
-    → Each (λ line. line.asked ≢ Finish) block → Each (λ line. Replied last.log line.asked line.answer) block → Each (λ line. HasContent start.plan last.log line.asked line.answer) block
+    → Each (λ line. Replied last.log line.asked line.answer) block → Each (λ line. HasContent start.plan last.log line.asked line.answer) block
     → Each (InPhase start (first_of start) (running_of start last all)) block
-each_all start last all [] kinds refusals drawns stamped plain more writes content = tt
-each_all start last all (line ∷ block) kinds refusals drawns stamped plain more writes content = (
+each_all start last all [] kinds refusals drawns stamped plain writes content = tt
+each_all start last all (line ∷ block) kinds refusals drawns stamped plain writes content = (
   record {
     kind = kinds.0;
     refusal = refusals.0;
     drawn = drawns.0;
     stamped = stamped.0;
     unmet = plain_meet line.answer plain.0;
-    unended = unended start line.asked line.answer more.0 kinds.0 refusals.0;
     replied = writes.0;
     content = content_channels start last.log line.asked line.answer content.0;
     sealed = subst (AreTails (tail_below start.seal_rows (λ channel. printed_events start channel all)) 0) (sym (plain_seals line.answer plain.0)) tt;
   },
-  each_all start last all block kinds.1 refusals.1 drawns.1 stamped.1 plain.1 more.1 writes.1 content.1,
+  each_all start last all block kinds.1 refusals.1 drawns.1 stamped.1 plain.1 writes.1 content.1,
 )
 
-module _ (start : Start) (last : Plain) (block : List Line) (stands : Stands start last block) (more : Each (λ line. line.asked ≢ Finish) block) where
+module _ (start : Start) (last : Plain) (block : List Line) (stands : Stands start last block) where
   in_phase : Each (InPhase start (first_of start) (running_of start last block)) block
-  in_phase = each_all start last block block stands.kinds stands.refusals (each-unflat (λ n. start.m0 < n) (λ line. drawn line.answer) block stands.numbers.above) stands.stamped stands.plain_kinds more stands.writes stands.content
+  in_phase = each_all start last block block stands.kinds stands.refusals (each-unflat (λ n. start.m0 < n) (λ line. drawn line.answer) block stands.numbers.above) stands.stamped stands.plain_kinds stands.writes stands.content
 
   unmet_block : AreUnmet block
   unmet_block = each_implied (λ line. IsPlain line.answer) (λ line. met_of line.answer ≡ None) (λ line plain. plain_meet line.answer plain) block stands.plain_kinds
@@ -185,33 +171,31 @@ module _ (start : Start) (last : Plain) (block : List Line) (stands : Stands sta
 
 -- ---- its end
 
-end_answer : (start : Start) (answer : Answer) → IsOfKind start Finish answer → (counted : EndReply) × (answer ≡ answers.End counted)
-end_answer start (answers.End counted) kind = (counted, refl)
-end_answer start answer kind = absurd kind
+module _ (start : Start) (last : Plain) (block : List Line) (stands : Stands start last block) (counted : MeetReply) (ends : Ends start last counted) where
+  -- the tail that was kept is the printed one at the end
+  last_tail : (channel : ℕ) → channel < start.channels → last.tail ≡ tail_at start.seal_rows (λ c. printed_events start c block) counted.ts.0 channel
+  last_tail channel there =
+      stands.tails channel there
+      ∙ sym (ap (walk start.seal_rows) (all_happened start last.clock counted.ts.0 channel block stands.stamped ends.drawn_above))
 
-end_facts : (start : Start) (last new : Plain) (block : List Line) (number : ℕ) (counted : EndReply) → Serves start last Finish (answers.End counted) new
-    → EndFacts start (running_of start last block) (record { number = number; asked = Finish; answer = answers.End counted })
-end_facts start last new block number counted serves = record {
-  counted = counted;
-  asked = refl;
-  answer = refl;
-  drawn = serves.drawn_above.0;
-  log = last.log;
-  whole = λ key. refl;
-  counts = subst (λ log. CountsLive log counted) (serves.log ∙ append-nil last.log) serves.counted;
-}
+  end_facts : (number : ℕ) → EndFacts start (running_of start last block) (end_line number counted)
+  end_facts number = record {
+    counted = counted;
+    asked = refl;
+    answer = refl;
+    drawn = ends.drawn_above;
+    log = last.log;
+    whole = λ key. refl;
+    counts = subst (λ failures. Counts start last.log (tail_at start.seal_rows (λ c. printed_events start c block) counted.ts.0) failures counted) (sym (no_failures block))
+        (counts_tails start last.log (λ channel. last.tail) (tail_at start.seal_rows (λ c. printed_events start c block) counted.ts.0) 0 counted last_tail ends.counts);
+  }
 
 -- a run of one caller on a plain log, and its end, are legal
-pub alone_legal : (start : Start) (clock : ℕ) (last new : Plain) (asks : List Asked) (block : List Line) (number : ℕ) (answer : Answer)
-    → Each (λ entry. entry.ts.0 < clock) start.base → start.m0 < clock → Run start (begun start clock) block last → Each (λ line. line.asked ≢ Finish) block → Serves start last Finish answer new
-    → Numbered 2 (block ++ record { number = number; asked = Finish; answer = answer } ∷ []) → map (λ line. line.asked) (block ++ record { number = number; asked = Finish; answer = answer } ∷ []) ≡ asks
-    → IsLegal start asks (block ++ record { number = number; asked = Finish; answer = answer } ∷ [])
-alone_legal start clock last new asks block number answer base m0 run more serves numbered asked =
+pub alone_legal : (start : Start) (clock : ℕ) (last : Plain) (asks : List Asked) (block : List Line) (number : ℕ) (counted : MeetReply)
+    → Each (λ entry. entry.ts.0 < clock) start.base → start.m0 < clock → Run start (begun start clock) block last → Ends start last counted
+    → Numbered 2 (block ++ end_line number counted ∷ []) → map (λ line. line.asked) (block ++ end_line number counted ∷ []) ≡ asks
+    → IsLegal start asks (block ++ end_line number counted ∷ [])
+alone_legal start clock last asks block number counted base m0 run ends numbered asked =
     let stands : Stands start last block = ran start (begun start clock) last [] block (at_start start clock base m0) run in
-    let counted : EndReply = (end_answer start answer serves.kind).0 in
-    let is : answer ≡ answers.End counted = (end_answer start answer serves.kind).1 in
-    let ends : EndFacts start (running_of start last block) (record { number = number; asked = Finish; answer = answer }) =
-    subst (λ a. EndFacts start (running_of start last block) (record { number = number; asked = Finish; answer = a })) (sym is)
-    (end_facts start last new block number counted (subst (λ a. Serves start last Finish a new) is serves)) in
-    whole_legal start (first_of start) (first_of start) (running_of start last block) [] block (record { number = number; asked = Finish; answer = answer }) asks
-    (begins start) refl (plain_phase start last block stands more) ends numbered asked
+    whole_legal start (first_of start) (first_of start) (running_of start last block) [] block (end_line number counted) asks
+    (begins start) refl (plain_phase start last block stands) (end_facts start last block stands counted ends number) numbered asked

@@ -107,7 +107,7 @@ module _ (start : Start) (clock : ℕ) (before block : List Line) (low : AreBelo
       (each_implied (λ line. Each (λ n. clock ≤ n) (drawn line.answer)) (λ line. Each (λ e. clock ≤ e.ts) (events_of start.channels channel line))
       (λ line all. events_hold (λ n. clock ≤ n) start.channels channel (changes_of line.asked) line.answer all) block high)
 
-  events_below : (channel : ℕ) → Each (λ e. e.ts < clock) (flat_map (events_of start.channels channel) before)
+  pub events_below : (channel : ℕ) → Each (λ e. e.ts < clock) (flat_map (events_of start.channels channel) before)
   events_below channel = each-flat_map (λ e. e.ts < clock) (events_of start.channels channel) before
       (each_implied (λ line. Each (λ n. n < clock) (stamps line.answer)) (λ line. Each (λ e. e.ts < clock) (events_of start.channels channel line))
       (λ line all. events_hold (λ n. n < clock) start.channels channel (changes_of line.asked) line.answer (drawn_shown (λ n. n < clock) line.answer all)) before low)
@@ -163,30 +163,28 @@ module _ (start : Start) (clock : ℕ) (before block : List Line) (low : AreBelo
   tails_same ts early = λ i. λ channel. printed_tail-blocks start clock before block low high ts channel early i
 
   counted_later : (earlier : List Line) (answer : Answer) → CountsRightly start before earlier answer → Each (λ n. n < clock) (stamps answer) → CountsRightly start (before ++ block) earlier answer
-  counted_later earlier answers.Created right early = record { sealed = tt; met = tt; ended = tt }
-  counted_later earlier (answers.Wrote reply) right early = record { sealed = tt; met = tt; ended = tt }
-  counted_later earlier (answers.Hits now guarantee ts hits) right early = record { sealed = tt; met = tt; ended = tt }
-  counted_later earlier (answers.Found now guarantee ts row) right early = record { sealed = tt; met = tt; ended = tt }
-  counted_later earlier (answers.Pending now guarantee channel tick) right early = record { sealed = tt; met = tt; ended = tt }
-  counted_later earlier (answers.Ticked ticks) right early = record { sealed = tt; met = tt; ended = tt }
+  counted_later earlier answers.Created right early = record { sealed = tt; met = tt }
+  counted_later earlier (answers.Wrote reply) right early = record { sealed = tt; met = tt }
+  counted_later earlier (answers.Hits now guarantee ts hits) right early = record { sealed = tt; met = tt }
+  counted_later earlier (answers.Found now guarantee ts row) right early = record { sealed = tt; met = tt }
+  counted_later earlier (answers.Pending now guarantee channel tick) right early = record { sealed = tt; met = tt }
+  counted_later earlier (answers.Ticked ticks) right early = record { sealed = tt; met = tt }
   counted_later earlier (answers.Sealed seals) right early = record {
     sealed = tails_more (tail_before start before) (tail_before start (before ++ block)) (λ ts. ts < clock)
         (λ ts channel low_ts. tail_before-blocks start clock before block low high ts channel low_ts) 0 seals early right.sealed;
     met = tt;
-    ended = tt;
   }
   counted_later earlier (answers.Met counted) right early = record {
     sealed = tt;
     met = counts_more start (printed_log start before) (printed_log start (before ++ block)) (printed_tail start before counted.ts.0) (printed_tail start (before ++ block) counted.ts.0)
         (phase_failures 0 earlier) (phase_failures 0 earlier) counted (log_same counted.ts.0 early.0) (tails_same counted.ts.0 early.0) refl right.met;
-    ended = tt;
   }
   counted_later earlier (answers.End counted) right early = record {
     sealed = tt;
-    met = tt;
-    ended = right.ended ∙ ap (λ r. fin.len r) (log_same counted.ts.0 early.0);
+    met = counts_more start (printed_log start before) (printed_log start (before ++ block)) (printed_tail start before counted.ts.0) (printed_tail start (before ++ block) counted.ts.0)
+        (phase_failures 0 earlier) (phase_failures 0 earlier) counted (log_same counted.ts.0 early.0) (tails_same counted.ts.0 early.0) refl right.met;
   }
-  counted_later earlier (answers.Refused reason) right early = record { sealed = tt; met = tt; ended = tt }
+  counted_later earlier (answers.Refused reason) right early = record { sealed = tt; met = tt }
 
 -- ---- blocks
 

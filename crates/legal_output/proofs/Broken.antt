@@ -16,12 +16,12 @@ use Rattle.hybrid_time.specs.declared.levels.Level.TheVariants.{Eventually}
 use Rattle.log_model.specs.declared.logs.Write.TheVariants.{Insert}
 use Rattle.log_model.specs.declared.logs.Entry.{Entry}
 use Rattle.log_model.specs.Logs.{Rows, rows_of}
-use Rattle.log_model.specs.Scans.{hit_of, hits_found, passes_filter, scan}
+use Rattle.log_model.specs.Scans.{hits_found, passes_filter, scan}
 use Rattle.log_model.proofs.LogLaws.{rows_of-after}
 use Rattle.answer_lines.specs.declared.answers.Wrote.TheVariants.{Inserted, Exists}
 use Rattle.legal_output.specs.Printed.{past_of}
-use Rattle.legal_output.specs.Legal.{IsLegal, told_of, reply}
-use Rattle.legal_output.specs.Examples.{Clause, Form, Refusals, Numbers, Writes, Content, Levels, Order, Pending, Meets, Holds, BreaksJust, asks_in, one_channel, stamp, seven, row_seven, nearest_to, found, tick_line, search_line, legal_lines, without_a_tick, request_refused, number_twice, first_exists, hit_of_nothing, row_of_nothing, weak_guarantee, older_than_guarantee, older_than_known, falls_back, falls_behind_a_meet, pends_though_it_waits, pends_at_its_guarantee, seals_no_row, leaves_the_tail_out, too_many_wait, counts_too_many}
+use Rattle.legal_output.specs.Legal.{Counts, IsLegal, told_of, reply}
+use Rattle.legal_output.specs.Examples.{Clause, Form, Refusals, Numbers, Writes, Content, Levels, Order, Pending, Meets, Holds, BreaksJust, asks_in, one_channel, stamp, seven, row_seven, nearest_to, found, in_tail, tick_line, search_line, legal_lines, without_a_tick, request_refused, number_twice, first_exists, hit_of_nothing, row_of_nothing, weak_guarantee, older_than_guarantee, older_than_known, falls_back, falls_behind_a_meet, pends_though_it_waits, pends_at_its_guarantee, seals_no_row, leaves_the_tail_out, too_many_wait, counts_too_many, end_leaves_the_tail_out, too_many_wait_at_the_end, end_keeps_dead_rows}
 
 abbrev one_entry : ℕ → Row → List Entry
 one_entry ts row = record { ts = stamp ts; write = Insert row } ∷ []
@@ -41,6 +41,10 @@ nothing_live row = ap is_some (ap (λ rows. fin.get rows row.key.0) rows_of_none
 
 none_counted : fin.len (rows_of []) ≡ 0
 none_counted = ap (λ rows. fin.len rows) rows_of_none ∙ fin.len-empty int_cmp Row
+
+-- an end or a meet with nothing to count
+none_met : {ts : ℕ} → Counts one_channel [] (λ channel. record { rows = 0; segments = 0 }) 0 (in_tail ts 0 0 0)
+none_met = record { live = sym none_counted; tail = refl; node_live = lit≤ tt; merged = λ e. lit≤ tt; least = lit≤ tt; most = lit≤ tt; waiting = lit≤ tt; failed = lit≤ tt }
 
 empty_has_none : (row : Row) → fin.contains_key (fin.empty {X = Row} {R = int_cmp}) row.key.0 ≡ false
 empty_has_none row = ap is_some (fin.get-empty int_cmp row.key.0)
@@ -114,7 +118,7 @@ legal vector = record {
   levels = (tt, (tt, (record { guarantee = refl; fresh = record { guaranteed = lit≤ tt; known = (0, lit< tt, lit≤ tt) } }, (tt, (record { guarantee = refl; fresh = record { guaranteed = lit≤ tt; known = lit≤ tt } }, (record { guarantee = refl; fresh = tt }, (tt, (tt, (tt, tt)))))))));
   order = (record { rising = (tt, tt); after_meet = (lit< tt, tt); after_caller = (lit< tt, tt) }, (record { rising = (tt, tt); after_meet = (lit< tt, tt); after_caller = (lit< tt, tt) }, (record { rising = (tt, tt); after_meet = (lit< tt, tt); after_caller = (lit< tt, tt) }, (record { rising = tt; after_meet = tt; after_caller = tt }, (record { rising = (tt, tt); after_meet = (lit< tt, tt); after_caller = (lit< tt, tt) }, (record { rising = (tt, tt); after_meet = (lit< tt, tt); after_caller = (lit< tt, tt) }, (record { rising = (tt, tt); after_meet = (lit< tt, tt); after_caller = (lit< tt, tt) }, (record { rising = (tt, tt); after_meet = (lit< tt, tt); after_caller = (lit< tt, tt) }, (record { rising = (tt, tt); after_meet = (lit< tt, tt); after_caller = (lit< tt, tt) }, tt)))))))));
   pending = (tt, (tt, (tt, (tt, (tt, (record { alone = refl; needed = refl; known = lit≤ tt; below = lit< tt }, (tt, (tt, (tt, tt)))))))));
-  meets = (record { sealed = tt; met = tt; ended = tt }, (record { sealed = tt; met = tt; ended = tt }, (record { sealed = tt; met = tt; ended = tt }, (record { sealed = tt; met = tt; ended = tt }, (record { sealed = tt; met = tt; ended = tt }, (record { sealed = tt; met = tt; ended = tt }, (record { sealed = (refl, tt); met = tt; ended = tt }, (record { sealed = tt; met = record { live = sym (one_counted 2 (row_seven vector)); tail = refl; node_live = lit≤ tt; merged = λ e. lit≤ tt; least = lit≤ tt; most = lit≤ tt; waiting = lit≤ tt; failed = lit≤ tt }; ended = tt }, (record { sealed = tt; met = tt; ended = sym (one_counted 2 (row_seven vector)) }, tt)))))))));
+  meets = (record { sealed = tt; met = tt }, (record { sealed = tt; met = tt }, (record { sealed = tt; met = tt }, (record { sealed = tt; met = tt }, (record { sealed = tt; met = tt }, (record { sealed = tt; met = tt }, (record { sealed = (refl, tt); met = tt }, (record { sealed = tt; met = record { live = sym (one_counted 2 (row_seven vector)); tail = refl; node_live = lit≤ tt; merged = λ e. lit≤ tt; least = lit≤ tt; most = lit≤ tt; waiting = lit≤ tt; failed = lit≤ tt } }, (record { sealed = tt; met = record { live = sym (one_counted 2 (row_seven vector)); tail = refl; node_live = lit≤ tt; merged = λ e. lit≤ tt; least = lit≤ tt; most = lit≤ tt; waiting = lit≤ tt; failed = lit≤ tt } }, tt)))))))));
 }
 
 form_others : (other : Clause) → other ≢ Form → Holds one_channel without_a_tick other
@@ -126,7 +130,7 @@ form_others Content differs = (tt, (tt, tt))
 form_others Levels differs = (tt, (tt, tt))
 form_others Order differs = (record { rising = tt; after_meet = tt; after_caller = tt }, (record { rising = (tt, tt); after_meet = (lit< tt, tt); after_caller = (lit< tt, tt) }, tt))
 form_others Pending differs = (tt, (tt, tt))
-form_others Meets differs = (record { sealed = tt; met = tt; ended = tt }, (record { sealed = tt; met = tt; ended = sym none_counted }, tt))
+form_others Meets differs = (record { sealed = tt; met = tt }, (record { sealed = tt; met = none_met }, tt))
 
 pub form : BreaksJust one_channel without_a_tick Form
 form = record { broken = λ holds. let none_is_one : 0 ≡ 1 = holds.kinds.0 in cc; others = form_others }
@@ -140,7 +144,7 @@ refusals_others Content differs = (tt, (tt, tt))
 refusals_others Levels differs = (tt, (tt, tt))
 refusals_others Order differs = (record { rising = tt; after_meet = tt; after_caller = tt }, (record { rising = (tt, tt); after_meet = (lit< tt, tt); after_caller = (lit< tt, tt) }, tt))
 refusals_others Pending differs = (tt, (tt, tt))
-refusals_others Meets differs = (record { sealed = tt; met = tt; ended = tt }, (record { sealed = tt; met = tt; ended = sym none_counted }, tt))
+refusals_others Meets differs = (record { sealed = tt; met = tt }, (record { sealed = tt; met = none_met }, tt))
 
 pub refusals : BreaksJust one_channel request_refused Refusals
 refusals = record { broken = λ holds. holds.0; others = refusals_others }
@@ -154,7 +158,7 @@ numbers_others Content differs = (tt, (tt, (tt, tt)))
 numbers_others Levels differs = (tt, (tt, (tt, tt)))
 numbers_others Order differs = (record { rising = (tt, tt); after_meet = (lit< tt, tt); after_caller = (lit< tt, tt) }, (record { rising = (tt, tt); after_meet = (lit< tt, tt); after_caller = (lit< tt, tt) }, (record { rising = (tt, tt); after_meet = (lit< tt, tt); after_caller = (lit< tt, tt) }, tt)))
 numbers_others Pending differs = (tt, (tt, (tt, tt)))
-numbers_others Meets differs = (record { sealed = tt; met = tt; ended = tt }, (record { sealed = tt; met = tt; ended = tt }, (record { sealed = tt; met = tt; ended = sym none_counted }, tt)))
+numbers_others Meets differs = (record { sealed = tt; met = tt }, (record { sealed = tt; met = tt }, (record { sealed = tt; met = none_met }, tt)))
 
 pub numbers : BreaksJust one_channel number_twice Numbers
 numbers = record { broken = λ holds. holds.differ.0.0 refl; others = numbers_others }
@@ -168,7 +172,7 @@ writes_others vector Content differs = (tt, (tt, tt))
 writes_others vector Levels differs = (tt, (tt, tt))
 writes_others vector Order differs = (record { rising = (tt, tt); after_meet = (lit< tt, tt); after_caller = (lit< tt, tt) }, (record { rising = (tt, tt); after_meet = (lit< tt, tt); after_caller = (lit< tt, tt) }, tt))
 writes_others vector Pending differs = (tt, (tt, tt))
-writes_others vector Meets differs = (record { sealed = tt; met = tt; ended = tt }, (record { sealed = tt; met = tt; ended = sym (one_counted 1 (row_seven vector)) }, tt))
+writes_others vector Meets differs = (record { sealed = tt; met = tt }, (record { sealed = tt; met = record { live = sym (one_counted 1 (row_seven vector)); tail = refl; node_live = lit≤ tt; merged = λ e. lit≤ tt; least = lit≤ tt; most = lit≤ tt; waiting = lit≤ tt; failed = lit≤ tt } }, tt))
 
 pub writes : (vector : List Bool) → BreaksJust one_channel (first_exists vector) Writes
 writes vector = record { broken = λ holds. first_finds_none (row_seven vector) holds.0.0; others = writes_others vector }
@@ -182,7 +186,7 @@ content_others vector Content differs = absurd (differs refl)
 content_others vector Levels differs = (record { guarantee = refl; fresh = record { guaranteed = lit≤ tt; known = (0, lit< tt, lit≤ tt) } }, (tt, tt))
 content_others vector Order differs = (record { rising = (tt, tt); after_meet = (lit< tt, tt); after_caller = (lit< tt, tt) }, (record { rising = (tt, tt); after_meet = (lit< tt, tt); after_caller = (lit< tt, tt) }, tt))
 content_others vector Pending differs = (tt, (tt, tt))
-content_others vector Meets differs = (record { sealed = tt; met = tt; ended = tt }, (record { sealed = tt; met = tt; ended = sym none_counted }, tt))
+content_others vector Meets differs = (record { sealed = tt; met = tt }, (record { sealed = tt; met = none_met }, tt))
 
 pub content : (vector : List Bool) → BreaksJust one_channel (hit_of_nothing vector) Content
 content vector = record { broken = λ holds. finds_nothing vector 2 holds.0; others = content_others vector }
@@ -196,7 +200,7 @@ row_others vector Content differs = absurd (differs refl)
 row_others vector Levels differs = (record { guarantee = refl; fresh = record { guaranteed = lit≤ tt; known = lit≤ tt } }, (tt, tt))
 row_others vector Order differs = (record { rising = (tt, tt); after_meet = (lit< tt, tt); after_caller = (lit< tt, tt) }, (record { rising = (tt, tt); after_meet = (lit< tt, tt); after_caller = (lit< tt, tt) }, tt))
 row_others vector Pending differs = (tt, (tt, tt))
-row_others vector Meets differs = (record { sealed = tt; met = tt; ended = tt }, (record { sealed = tt; met = tt; ended = sym none_counted }, tt))
+row_others vector Meets differs = (record { sealed = tt; met = tt }, (record { sealed = tt; met = none_met }, tt))
 
 pub row : (vector : List Bool) → BreaksJust one_channel (row_of_nothing vector) Content
 row vector = record { broken = λ holds. shows_nothing vector holds.0; others = row_others vector }
@@ -210,7 +214,7 @@ levels_others vector Content differs = (sym (scan_none vector 2), (tt, tt))
 levels_others vector Levels differs = absurd (differs refl)
 levels_others vector Order differs = (record { rising = (tt, tt); after_meet = (lit< tt, tt); after_caller = (lit< tt, tt) }, (record { rising = (tt, tt); after_meet = (lit< tt, tt); after_caller = (lit< tt, tt) }, tt))
 levels_others vector Pending differs = (tt, (tt, tt))
-levels_others vector Meets differs = (record { sealed = tt; met = tt; ended = tt }, (record { sealed = tt; met = tt; ended = sym none_counted }, tt))
+levels_others vector Meets differs = (record { sealed = tt; met = tt }, (record { sealed = tt; met = none_met }, tt))
 
 pub levels : (vector : List Bool) → BreaksJust one_channel (weak_guarantee vector) Levels
 levels vector = record { broken = λ holds. let none_is_one : 0 ≡ 1 = holds.0.guarantee in cc; others = levels_others vector }
@@ -224,7 +228,7 @@ guaranteed_others vector Content differs = (sym (scan_none vector 0), (tt, tt))
 guaranteed_others vector Levels differs = absurd (differs refl)
 guaranteed_others vector Order differs = (record { rising = (tt, tt); after_meet = (lit< tt, tt); after_caller = (lit< tt, tt) }, (record { rising = (tt, tt); after_meet = (lit< tt, tt); after_caller = (lit< tt, tt) }, tt))
 guaranteed_others vector Pending differs = (tt, (tt, tt))
-guaranteed_others vector Meets differs = (record { sealed = tt; met = tt; ended = tt }, (record { sealed = tt; met = tt; ended = sym none_counted }, tt))
+guaranteed_others vector Meets differs = (record { sealed = tt; met = tt }, (record { sealed = tt; met = none_met }, tt))
 
 pub guaranteed : (vector : List Bool) → BreaksJust one_channel (older_than_guarantee vector) Levels
 guaranteed vector = record { broken = λ holds. let late : 1 ≤ 0 = holds.0.fresh.guaranteed in omega arith; others = guaranteed_others vector }
@@ -238,7 +242,7 @@ known_others vector Content differs = (tt, (sym (scan_none vector 0), (tt, tt)))
 known_others vector Levels differs = absurd (differs refl)
 known_others vector Order differs = (record { rising = (tt, tt); after_meet = (lit< tt, tt); after_caller = (lit< tt, tt) }, (record { rising = (tt, tt); after_meet = (lit< tt, tt); after_caller = (lit< tt, tt) }, (record { rising = (tt, tt); after_meet = (lit< tt, tt); after_caller = (lit< tt, tt) }, tt)))
 known_others vector Pending differs = (tt, (tt, (tt, tt)))
-known_others vector Meets differs = (record { sealed = tt; met = tt; ended = tt }, (record { sealed = tt; met = tt; ended = tt }, (record { sealed = tt; met = tt; ended = sym none_counted }, tt)))
+known_others vector Meets differs = (record { sealed = tt; met = tt }, (record { sealed = tt; met = tt }, (record { sealed = tt; met = none_met }, tt)))
 
 pub known : (vector : List Bool) → BreaksJust one_channel (older_than_known vector) Levels
 known vector = record { broken = λ holds. knows_its_tick vector holds.1.0.fresh.known.0 holds.1.0.fresh.known.1 holds.1.0.fresh.known.2; others = known_others vector }
@@ -252,7 +256,7 @@ order_others Content differs = (tt, (tt, (tt, tt)))
 order_others Levels differs = (tt, (tt, (tt, tt)))
 order_others Order differs = absurd (differs refl)
 order_others Pending differs = (tt, (tt, (tt, tt)))
-order_others Meets differs = (record { sealed = tt; met = tt; ended = tt }, (record { sealed = tt; met = tt; ended = tt }, (record { sealed = tt; met = tt; ended = sym none_counted }, tt)))
+order_others Meets differs = (record { sealed = tt; met = tt }, (record { sealed = tt; met = tt }, (record { sealed = tt; met = none_met }, tt)))
 
 pub order : BreaksJust one_channel falls_back Order
 order = record { broken = λ holds. let later : 2 < 1 = holds.1.0.after_caller.0 in omega arith; others = order_others }
@@ -266,7 +270,7 @@ after_meet_others Content differs = (tt, (tt, (tt, tt)))
 after_meet_others Levels differs = (tt, (tt, (tt, tt)))
 after_meet_others Order differs = absurd (differs refl)
 after_meet_others Pending differs = (tt, (tt, (tt, tt)))
-after_meet_others Meets differs = (record { sealed = tt; met = record { live = sym none_counted; tail = refl; node_live = lit≤ tt; merged = λ e. lit≤ tt; least = lit≤ tt; most = lit≤ tt; waiting = lit≤ tt; failed = lit≤ tt }; ended = tt }, (record { sealed = tt; met = tt; ended = tt }, (record { sealed = tt; met = tt; ended = sym none_counted }, tt)))
+after_meet_others Meets differs = (record { sealed = tt; met = record { live = sym none_counted; tail = refl; node_live = lit≤ tt; merged = λ e. lit≤ tt; least = lit≤ tt; most = lit≤ tt; waiting = lit≤ tt; failed = lit≤ tt } }, (record { sealed = tt; met = tt }, (record { sealed = tt; met = none_met }, tt)))
 
 pub after_meet : BreaksJust one_channel falls_behind_a_meet Order
 after_meet = record { broken = λ holds. let later : 2 < 1 = holds.1.0.after_meet.0 in omega arith; others = after_meet_others }
@@ -280,7 +284,7 @@ pending_others Content differs = (tt, (tt, tt))
 pending_others Levels differs = (record { guarantee = refl; fresh = tt }, (tt, tt))
 pending_others Order differs = (record { rising = (tt, tt); after_meet = (lit< tt, tt); after_caller = (lit< tt, tt) }, (record { rising = (tt, tt); after_meet = (lit< tt, tt); after_caller = (lit< tt, tt) }, tt))
 pending_others Pending differs = absurd (differs refl)
-pending_others Meets differs = (record { sealed = tt; met = tt; ended = tt }, (record { sealed = tt; met = tt; ended = sym none_counted }, tt))
+pending_others Meets differs = (record { sealed = tt; met = tt }, (record { sealed = tt; met = none_met }, tt))
 
 pub pending : BreaksJust one_channel pends_though_it_waits Pending
 pending = record { broken = λ holds. true≢false holds.0.alone; others = pending_others }
@@ -294,7 +298,7 @@ pending_below_others Content differs = (tt, (tt, tt))
 pending_below_others Levels differs = (record { guarantee = refl; fresh = tt }, (tt, tt))
 pending_below_others Order differs = (record { rising = (tt, tt); after_meet = (lit< tt, tt); after_caller = (lit< tt, tt) }, (record { rising = (tt, tt); after_meet = (lit< tt, tt); after_caller = (lit< tt, tt) }, tt))
 pending_below_others Pending differs = absurd (differs refl)
-pending_below_others Meets differs = (record { sealed = tt; met = tt; ended = tt }, (record { sealed = tt; met = tt; ended = sym none_counted }, tt))
+pending_below_others Meets differs = (record { sealed = tt; met = tt }, (record { sealed = tt; met = none_met }, tt))
 
 pub pending_below : BreaksJust one_channel pends_at_its_guarantee Pending
 pending_below = record { broken = λ holds. let below : 1 < 1 = holds.0.below in omega arith; others = pending_below_others }
@@ -353,4 +357,46 @@ meets_others Pending differs = (tt, tt)
 meets_others Meets differs = absurd (differs refl)
 
 pub meets : BreaksJust one_channel counts_too_many Meets
-meets = record { broken = λ holds. let one_is_none : 1 ≡ fin.len (rows_of []) = holds.0.ended in let none_is_one : 0 ≡ 1 = sym none_counted ∙ sym one_is_none in cc; others = meets_others }
+meets = record { broken = λ holds. let one_is_none : 1 ≡ fin.len (rows_of []) = holds.0.met.live in let none_is_one : 0 ≡ 1 = sym none_counted ∙ sym one_is_none in cc; others = meets_others }
+
+end_tail_others : (vector : List Bool) → (other : Clause) → other ≢ Meets → Holds one_channel (end_leaves_the_tail_out vector) other
+end_tail_others vector Form differs = record { numbered = (refl, (refl, tt)); asked = refl; kinds = (tt, (tt, tt)) }
+end_tail_others vector Refusals differs = (tt, (tt, tt))
+end_tail_others vector Numbers differs = record { differ = (((λ e. cc), tt), (tt, tt)); above = (lit< tt, (lit< tt, tt)) }
+end_tail_others vector Writes differs = ((ap (told_of (Insert (row_seven vector))) (sym (nothing_live (row_seven vector))), tt), (tt, tt))
+end_tail_others vector Content differs = (tt, (tt, tt))
+end_tail_others vector Levels differs = (tt, (tt, tt))
+end_tail_others vector Order differs = (record { rising = (tt, tt); after_meet = (lit< tt, tt); after_caller = (lit< tt, tt) }, (record { rising = (tt, tt); after_meet = (lit< tt, tt); after_caller = (lit< tt, tt) }, tt))
+end_tail_others vector Pending differs = (tt, (tt, tt))
+end_tail_others vector Meets differs = absurd (differs refl)
+
+pub end_tail : (vector : List Bool) → BreaksJust one_channel (end_leaves_the_tail_out vector) Meets
+end_tail vector = record { broken = λ holds. let none_is_one : 0 ≡ 1 = holds.1.0.met.tail in cc; others = end_tail_others vector }
+
+end_waiting_others : (vector : List Bool) → (other : Clause) → other ≢ Meets → Holds one_channel (too_many_wait_at_the_end vector) other
+end_waiting_others vector Form differs = record { numbered = (refl, (refl, tt)); asked = refl; kinds = (tt, (tt, tt)) }
+end_waiting_others vector Refusals differs = (tt, (tt, tt))
+end_waiting_others vector Numbers differs = record { differ = (((λ e. cc), tt), (tt, tt)); above = (lit< tt, (lit< tt, tt)) }
+end_waiting_others vector Writes differs = ((ap (told_of (Insert (row_seven vector))) (sym (nothing_live (row_seven vector))), tt), (tt, tt))
+end_waiting_others vector Content differs = (tt, (tt, tt))
+end_waiting_others vector Levels differs = (tt, (tt, tt))
+end_waiting_others vector Order differs = (record { rising = (tt, tt); after_meet = (lit< tt, tt); after_caller = (lit< tt, tt) }, (record { rising = (tt, tt); after_meet = (lit< tt, tt); after_caller = (lit< tt, tt) }, tt))
+end_waiting_others vector Pending differs = (tt, (tt, tt))
+end_waiting_others vector Meets differs = absurd (differs refl)
+
+pub end_waiting : (vector : List Bool) → BreaksJust one_channel (too_many_wait_at_the_end vector) Meets
+end_waiting vector = record { broken = λ holds. let most : 1 ≤ 0 = holds.1.0.met.waiting in omega arith; others = end_waiting_others vector }
+
+end_merged_others : (other : Clause) → other ≢ Meets → Holds one_channel end_keeps_dead_rows other
+end_merged_others Form differs = record { numbered = (refl, tt); asked = refl; kinds = (tt, tt) }
+end_merged_others Refusals differs = (tt, tt)
+end_merged_others Numbers differs = record { differ = (tt, tt); above = (lit< tt, tt) }
+end_merged_others Writes differs = (tt, tt)
+end_merged_others Content differs = (tt, tt)
+end_merged_others Levels differs = (tt, tt)
+end_merged_others Order differs = (record { rising = (tt, tt); after_meet = (lit< tt, tt); after_caller = (lit< tt, tt) }, tt)
+end_merged_others Pending differs = (tt, tt)
+end_merged_others Meets differs = absurd (differs refl)
+
+pub end_merged : BreaksJust one_channel end_keeps_dead_rows Meets
+end_merged = record { broken = λ holds. let most : 1 ≤ 0 = holds.0.met.merged refl in omega arith; others = end_merged_others }

@@ -15,9 +15,9 @@ use Rattle.answer_lines.specs.declared.answers.Answer.TheVariants as answers
 use Rattle.request_lines.specs.declared.requests.Request.{Request}
 use Rattle.request_lines.specs.declared.requests.Ask.{Ask}
 use Rattle.request_lines.specs.declared.requests.Ask.TheVariants as asks
-use Rattle.legal_output.specs.Lines.{Asked, Bad, Given, Finish, Line, Start, channel_of, caller_in, caller_of, changes_of, reading_in, reading_of, written_of, late_of, seals_of, met_of, ended_of, failures_of, drawn, stamps, IsOfKind, IsAnswerTo}
+use Rattle.legal_output.specs.Lines.{Asked, Bad, Given, Finish, Line, Start, channel_of, caller_in, caller_of, changes_of, reading_in, reading_of, written_of, late_of, seals_of, met_of, failures_of, drawn, stamps, IsOfKind, IsAnswerTo}
 use Rattle.legal_output.specs.Printed.{Past, ordered, entries_of, events_of, walk, printed_log, printed_events, printed_tail, tail_before, past_for, past_of, all_stamps, all_ticks_shown, ticks_shown, lines_of, is_caller, greatest, meet_behind, meet_or, write_behind, write_or, failures_or, phase_failures}
-use Rattle.legal_output.specs.Legal.{AtEach, RefusedRightly, told_of, reply, Replied, ShowsContent, HasContent, HasLevel, ReadsAt, Rising, InOrder, IsPending, PendingRightly, Counts, CountsLive, CountsRightly}
+use Rattle.legal_output.specs.Legal.{AtEach, RefusedRightly, told_of, reply, Replied, ShowsContent, HasContent, HasLevel, ReadsAt, Rising, InOrder, IsPending, PendingRightly, Counts, CountsRightly}
 use Rattle.legal_output.specs.Phases.{IsWithin, Running, IsWhole, of_key, tail_below, RepliedByChannel, ShowsChannels, ContentByChannel, past_in_phase, Called, InPhase, PhaseFacts}
 use Rattle.legal_output.proofs.Grown.{lines_of_each, lines_of-push, greatest-le, each-flat_map}
 use Rattle.legal_output.proofs.Later.{zip_implied}
@@ -179,15 +179,15 @@ ask_draws start request asks.Tick answer none kind refusal unmet = cc
 ask_draws start request asks.Seal answer none kind refusal unmet = cc
 ask_draws start request asks.Meet answer none kind refusal unmet = meet_draws start request answer kind refusal unmet
 
-end_draws : (start : Start) (answer : Answer) → IsOfKind start Finish answer → ended_of answer ≡ None → drawn answer ≡ []
-end_draws start (answers.End reply) kind unended = cc
-end_draws start answer kind unended = absurd kind
+end_draws : (start : Start) (answer : Answer) → IsOfKind start Finish answer → met_of answer ≡ None → drawn answer ≡ []
+end_draws start (answers.End reply) kind unmet = cc
+end_draws start answer kind unmet = absurd kind
 
-pub no_draws : (start : Start) (asked : Asked) (answer : Answer) → caller_of asked ≡ None → IsOfKind start asked answer → RefusedRightly asked answer → met_of answer ≡ None → ended_of answer ≡ None
+pub no_draws : (start : Start) (asked : Asked) (answer : Answer) → caller_of asked ≡ None → IsOfKind start asked answer → RefusedRightly asked answer → met_of answer ≡ None
     → drawn answer ≡ []
-no_draws start (Bad reason) answer none kind refusal unmet unended = ap drawn refusal
-no_draws start (Given request) answer none kind refusal unmet unended = ask_draws start request request.what answer none kind refusal unmet
-no_draws start Finish answer none kind refusal unmet unended = end_draws start answer kind unended
+no_draws start (Bad reason) answer none kind refusal unmet = ap drawn refusal
+no_draws start (Given request) answer none kind refusal unmet = ask_draws start request request.what answer none kind refusal unmet
+no_draws start Finish answer none kind refusal unmet = end_draws start answer kind unmet
 
 order_of_none : (past : Past) (answer : Answer) → drawn answer ≡ [] → InOrder past answer
 order_of_none past answer is = record {
@@ -257,7 +257,7 @@ module _ (start : Start) (old new : Running) (before : List Line) (stand : Stand
 
   order_by : (pre : List Line) (line : Line) (who : Option ℕ) → caller_of line.asked ≡ who → Behind start old new pre line → InOrder (past_for start (before ++ pre) who) line.answer
   order_by pre line None is behind =
-      order_of_none (past_for start (before ++ pre) None) line.answer (no_draws start line.asked line.answer is behind.here.kind behind.here.refusal behind.here.unmet behind.here.unended)
+      order_of_none (past_for start (before ++ pre) None) line.answer (no_draws start line.asked line.answer is behind.here.kind behind.here.refusal behind.here.unmet)
   order_by pre line (Some caller) is behind =
       order_within (past_for start (before ++ pre) (Some caller)) (past_in_phase start.channels old.met (old.written caller) (lines_of (Some caller) pre)) line.answer
       (within pre caller behind.unmet) (behind.called caller is).order
@@ -311,7 +311,6 @@ module _ (start : Start) (old new : Running) (before : List Line) (stand : Stand
       sealed = tails_more (tail_below start.seal_rows new.events) (tail_before start (before ++ block)) (λ ts. ⊤) (λ ts channel any. tails_below ts channel) 0 (seals_of line.answer)
           (each_any (map (λ seal. seal.0.0) (seals_of line.answer))) here.sealed;
       met = some_of_none (λ counted. Counts start (printed_log start (before ++ block)) (printed_tail start (before ++ block) counted.ts.0) (phase_failures 0 earlier) counted) (met_of line.answer) here.unmet;
-      ended = some_of_none (CountsLive (printed_log start (before ++ block))) (ended_of line.answer) here.unended;
     }
 
     extends : Extends start old.clock new.clock before block

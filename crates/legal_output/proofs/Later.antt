@@ -1,6 +1,5 @@
 -- What was right of a line stays right when later entries join the log.
 use Rattle.std.proofs.Common.{◌≡◌, ℕ, ◌<◌, ◌≤◌, List, [], ◌∷◌, ◌++◌, sym, ap, ◌∙◌, arith}
-use Rattle.std.specs.Prelude.{IfSome}
 use Rattle.std.specs.List.{AllByRecursion as Each, AllZip}
 use Rattle.std.specs.FinMap as fin
 use Rattle.log_model.specs.declared.logs.Entry.{Entry}
@@ -11,8 +10,8 @@ use Rattle.answer_lines.specs.declared.answers.Answer.{Answer}
 use Rattle.answer_lines.specs.declared.answers.Answer.TheVariants as answers
 use Rattle.request_lines.specs.declared.requests.Ask.{Ask}
 use Rattle.request_lines.specs.declared.requests.Ask.TheVariants as asks
-use Rattle.legal_output.specs.Lines.{Asked, Bad, Given, Finish, stamps, ended_of}
-use Rattle.legal_output.specs.Legal.{told_of, reply, Replied, ShowsContent, HasContent, CountsLive}
+use Rattle.legal_output.specs.Lines.{Asked, Bad, Given, Finish, stamps}
+use Rattle.legal_output.specs.Legal.{told_of, reply, Replied, ShowsContent, HasContent}
 
 lt_over : (a b c : ℕ) → a < b → b ≤ c → a < c
 lt_over a b c low high = omega arith
@@ -79,16 +78,3 @@ pub content-more : (plan : Plan) (log more : List Entry) (clock : ℕ) (asked : 
 content-more plan log more clock (Bad reason) answer low high right = tt
 content-more plan log more clock (Given request) answer low high right = shows-more plan log more clock request.what answer low high right
 content-more plan log more clock Finish answer low high right = tt
-
-pub counted-more : (log more : List Entry) (clock : ℕ) (answer : Answer) → Each (λ n. n < clock) (stamps answer) → IsFrom clock more
-    → IfSome (ended_of answer) (CountsLive log) → IfSome (ended_of answer) (CountsLive (log ++ more))
-counted-more log more clock answers.Created low high right = tt
-counted-more log more clock (answers.Wrote written) low high right = tt
-counted-more log more clock (answers.Hits now guarantee ts hits) low high right = tt
-counted-more log more clock (answers.Found now guarantee ts row) low high right = tt
-counted-more log more clock (answers.Pending now guarantee channel tick) low high right = tt
-counted-more log more clock (answers.Ticked ticks) low high right = tt
-counted-more log more clock (answers.Sealed seals) low high right = tt
-counted-more log more clock (answers.Met counted) low high right = tt
-counted-more log more clock (answers.End counted) low high right = right ∙ sym (ap (λ rows. fin.len rows) (live-more log more counted.ts.0 (above counted.ts.0 clock more low.0 high)))
-counted-more log more clock (answers.Refused reason) low high right = tt

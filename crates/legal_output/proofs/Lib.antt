@@ -10,3 +10,4 @@ pub mod InPhases
 pub mod PhaseRuns
 pub mod Alone
 pub mod Members
+pub mod Tails

@@ -2,17 +2,15 @@
 use Rattle.std.proofs.Common.{◌≡◌, ℕ, suc, ◌<◌, ◌≤◌, List, [], ◌∷◌, ◌++◌, map, sym, ap, subst, ◌∙◌, append_assoc, arith}
 use Rattle.std.specs.Prelude.{Some, None, nat_le}
 use Rattle.std.specs.List.{AllByRecursion as Each, filter}
-use Rattle.std.specs.FinMap as fin
 use Rattle.std.proofs.lemmas.List.{append-nil}
 use Rattle.log_model.specs.declared.logs.Entry.{Entry}
 use Rattle.log_model.proofs.LogLaws.{each-append, each_implied}
 use Rattle.answer_lines.specs.declared.answers.MeetReply.{MeetReply}
-use Rattle.answer_lines.specs.declared.answers.EndReply.{EndReply}
 use Rattle.answer_lines.specs.declared.answers.Answer.TheVariants as answers
 use Rattle.request_lines.specs.declared.requests.Ask.TheVariants as asks
 use Rattle.legal_output.specs.Lines.{Asked, Given, Finish, Line, Start, stamps}
 use Rattle.legal_output.specs.Printed.{Event, walk, printed_log, printed_events, printed_tail, all_stamps, lines_of, greatest, write_behind, past_for, phase_failures}
-use Rattle.legal_output.specs.Legal.{Numbered, Counts, CountsLive, CountsRightly, IsLegal}
+use Rattle.legal_output.specs.Legal.{Numbered, Counts, CountsRightly, IsLegal}
 use Rattle.legal_output.specs.Phases.{Running, IsWhole, of_key, tail_at, PhaseFacts, MeetFacts, EndFacts, Begins, Phase, RunOver, lines_in}
 use Rattle.legal_output.proofs.Grown.{each-flat_map, greatest-lt}
 use Rattle.legal_output.proofs.KeyByKey.{same_live}
@@ -43,6 +41,18 @@ at_rest start old before stand ts from = (
       (greatest-lt old.clock (all_stamps before) (some_clock old.met old.clock stand.below) (each-flat_map (λ n. n < old.clock) (λ line. stamps line.answer) before stand.sofar.stamped)) from,
 )
 
+-- what is counted when all is at rest, by a line that writes and seals nothing
+counts_rest : (start : Start) (old : Running) (before : List Line) → Stand start old before → (line : Line) (counted : MeetReply)
+    → printed_log start (before ++ line ∷ []) ≡ printed_log start before → ((channel : ℕ) → printed_events start channel (before ++ line ∷ []) ≡ printed_events start channel before)
+    → (log : List Entry) → IsWhole start.channels old.logs log → Counts start log (tail_at start.seal_rows old.events counted.ts.0) old.failures counted
+    → Counts start (printed_log start (before ++ line ∷ [])) (printed_tail start (before ++ line ∷ []) counted.ts.0) (phase_failures 0 before) counted
+counts_rest start old before stand line counted same events log whole counts =
+    counts_more start log (printed_log start (before ++ line ∷ [])) (tail_at start.seal_rows old.events counted.ts.0) (printed_tail start (before ++ line ∷ []) counted.ts.0)
+    old.failures (phase_failures 0 before) counted
+    (same_live log (printed_log start (before ++ line ∷ [])) counted.ts.0 (λ key. whole key ∙ sym (ap (of_key key) same ∙ stand.whole key)))
+    (λ i. λ channel. ap (λ es. walk start.seal_rows (filter (λ (event : Event). nat_le event.ts counted.ts.0) es)) (sym (events channel ∙ stand.events channel)) i)
+    stand.failures counts
+
 -- ---- meets
 
 abbrev meet_at : ℕ → ℕ → MeetReply → Line
@@ -65,12 +75,7 @@ module _ (start : Start) (old new : Running) (before : List Line) (stand : Stand
       → CountsRightly start (before ++ meet_at number caller counted ∷ []) before (answers.Met counted)
   counts_meet log whole counts = record {
     sealed = tt;
-    met = counts_more start log (printed_log start (before ++ meet_at number caller counted ∷ [])) (tail_at start.seal_rows old.events counted.ts.0)
-        (printed_tail start (before ++ meet_at number caller counted ∷ []) counted.ts.0) old.failures (phase_failures 0 before) counted
-        (same_live log (printed_log start (before ++ meet_at number caller counted ∷ [])) counted.ts.0 (λ key. whole key ∙ sym (whole_meet key)))
-        (λ i. λ channel. ap (λ es. walk start.seal_rows (filter (λ (event : Event). nat_le event.ts counted.ts.0) es)) (sym (events_meet channel ∙ stand.events channel)) i)
-        stand.failures counts;
-    ended = tt;
+    met = counts_rest start old before stand (meet_at number caller counted) counted log_meet events_meet log whole counts;
   }
 
   meet_extends : counted.ts.0 < new.clock → (log : List Entry) → IsWhole start.channels old.logs log → Counts start log (tail_at start.seal_rows old.events counted.ts.0) old.failures counted
@@ -127,7 +132,7 @@ meet_stands start old new before line stand facts =
 
 -- ---- the end
 
-abbrev end_at : ℕ → EndReply → Line
+abbrev end_at : ℕ → MeetReply → Line
 end_at number counted = record { number = number; asked = Finish; answer = answers.End counted }
 
 next : (n : ℕ) → n < suc n
@@ -136,12 +141,14 @@ next n = omega arith
 le_next : (a b : ℕ) → a ≤ b → a ≤ suc b
 le_next a b low = omega arith
 
-end_at_stands : (start : Start) (old : Running) (before : List Line) → Stand start old before → (number : ℕ) (counted : EndReply) → old.clock ≤ counted.ts.0
-    → (log : List Entry) → IsWhole start.channels old.logs log → CountsLive log counted → SoFar start (suc counted.ts.0) (before ++ end_at number counted ∷ [])
+end_at_stands : (start : Start) (old : Running) (before : List Line) → Stand start old before → (number : ℕ) (counted : MeetReply) → old.clock ≤ counted.ts.0
+    → (log : List Entry) → IsWhole start.channels old.logs log → Counts start log (tail_at start.seal_rows old.events counted.ts.0) old.failures counted → SoFar start (suc counted.ts.0) (before ++ end_at number counted ∷ [])
 end_at_stands start old before stand number counted from log whole counts =
     let line : Line = end_at number counted in
     let drawn_from : AreFrom old.clock (line ∷ []) = ((from, tt), tt) in
     let same : printed_log start (before ++ line ∷ []) ≡ printed_log start before = printed_log-blocks start old.clock before (line ∷ []) stand.sofar.stamped drawn_from ∙ append-nil (printed_log start before) in
+    let events : (channel : ℕ) → printed_events start channel (before ++ line ∷ []) ≡ printed_events start channel before =
+    λ channel. printed_events-blocks start old.clock before (line ∷ []) stand.sofar.stamped drawn_from channel ∙ append-nil (printed_events start channel before) in
     let above : ((past_for start before None).last_meet < counted.ts.0) × ((past_for start before None).last_stamp < counted.ts.0) = at_rest start old before stand counted.ts.0 from in
     extended start old.clock (suc counted.ts.0) before (line ∷ []) stand.sofar (record {
       later = le_next old.clock counted.ts.0 from;
@@ -155,14 +162,7 @@ end_at_stands start old before stand number counted from log whole counts =
       levels = (tt, tt);
       order = (record { rising = (tt, tt); after_meet = (above.0, tt); after_caller = (above.1, tt) }, tt);
       pending = (tt, tt);
-      meets = (
-        record {
-          sealed = tt;
-          met = tt;
-          ended = counts ∙ ap (λ r. fin.len r) (same_live log (printed_log start (before ++ line ∷ [])) counted.ts.0 (λ key. whole key ∙ sym (ap (of_key key) same ∙ stand.whole key)));
-        },
-        tt,
-      );
+      meets = (record { sealed = tt; met = counts_rest start old before stand line counted same events log whole counts }, tt);
     })
 
 end_is : (start : Start) (old : Running) (line : Line) (facts : EndFacts start old line) → end_at line.number facts.counted ≡ line

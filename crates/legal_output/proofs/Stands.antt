@@ -11,13 +11,14 @@ use Rattle.answer_lines.specs.declared.answers.Answer.{Answer}
 use Rattle.answer_lines.specs.declared.answers.Answer.TheVariants as answers
 use Rattle.request_lines.specs.declared.requests.Ask.{Ask}
 use Rattle.request_lines.specs.declared.requests.Ask.TheVariants as asks
-use Rattle.legal_output.specs.Lines.{Asked, Bad, Given, Finish, Line, Start, Reading, caller_in, caller_of, changes_of, reading_in, reading_of, written_of, drawn, stamps, stated_of, snapshot_of, late_of, seals_of, met_of, ended_of, IsOfKind, IsAnswerTo}
-use Rattle.legal_output.specs.Printed.{Past, past_for, past_of, entries_of, printed_log, all_drawn, all_stamps, all_ticks_shown, lines_of, is_caller, meet_behind, meet_or, write_behind, write_or, ticks_shown}
-use Rattle.legal_output.specs.Legal.{AtEach, RefusedRightly, Replied, HasContent, HasLevel, ReadsAt, IsGuarantee, CoversKnown, IsFresh, InOrder, IsPending, PendingRightly, CountsLive, HasNumbers, Rising}
+use Rattle.legal_output.specs.Lines.{Asked, Bad, Given, Finish, Line, Start, Reading, caller_in, caller_of, changes_of, reading_in, reading_of, written_of, drawn, stamps, stated_of, snapshot_of, late_of, seals_of, met_of, IsOfKind, IsAnswerTo}
+use Rattle.legal_output.specs.Printed.{Past, past_for, past_of, entries_of, printed_log, printed_events, walk, all_drawn, all_stamps, all_ticks_shown, lines_of, is_caller, meet_behind, meet_or, write_behind, write_or, ticks_shown}
+use Rattle.legal_output.specs.Legal.{AtEach, RefusedRightly, Replied, HasContent, HasLevel, ReadsAt, IsGuarantee, CoversKnown, IsFresh, InOrder, IsPending, PendingRightly, HasNumbers, Rising}
 use Rattle.legal_output.specs.Runs.{Plain, Serves, Run, IsPlain, past_at, begun}
 use Rattle.legal_output.proofs.Grown.{each-push, flat_map-push, at_each-push, differ-append, differ-rising, lines_of_each, each-flat_map, greatest-le, greatest-lt, meet_behind-push, write_behind-push, lines_of-push}
 use Rattle.legal_output.proofs.Placed.{entries_hold, drawn_shown, printed_log-push}
-use Rattle.legal_output.proofs.Later.{replied-more, content-more, counted-more}
+use Rattle.legal_output.proofs.Later.{replied-more, content-more}
+use Rattle.legal_output.proofs.Tails.{tail_push}
 
 pub record Stands (start : Start) (plain : Plain) (lines : List Line) : Type 0 where
   -- the state is that of the lines
@@ -29,6 +30,7 @@ pub record Stands (start : Start) (plain : Plain) (lines : List Line) : Type 0 w
   pub met : meet_behind start.m0 lines ≤ plain.tick
   pub told : (channel : ℕ) → Each (λ line. Each (λ n. n ≤ plain.tick) (ticks_shown start.channels channel line.asked line.answer)) lines
   pub stamped : Each (λ line. Each (λ n. n < plain.clock) (stamps line.answer)) lines
+  pub tails : (channel : ℕ) → channel < start.channels → plain.tail ≡ walk start.seal_rows (printed_events start channel lines)
   -- the lines are right
   pub kinds : Each (λ line. IsOfKind start line.asked line.answer) lines
   pub refusals : Each (λ line. RefusedRightly line.asked line.answer) lines
@@ -38,7 +40,6 @@ pub record Stands (start : Start) (plain : Plain) (lines : List Line) : Type 0 w
   pub levels : AtEach (λ earlier line. HasLevel start.channels (past_of start earlier line) line.asked line.answer) [] lines
   pub order : AtEach (λ earlier line. InOrder (past_of start earlier line) line.answer) [] lines
   pub plain_kinds : Each (λ line. IsPlain line.answer) lines
-  pub meets : Each (λ line. IfSome (ended_of line.answer) (CountsLive plain.log)) lines
 
 pub at_start : (start : Start) (clock : ℕ) → Each (λ e. e.ts.0 < clock) start.base → start.m0 < clock → Stands start (begun start clock) []
 at_start start clock base m0 = record {
@@ -50,6 +51,7 @@ at_start start clock base m0 = record {
   met = omega arith;
   told = λ channel. tt;
   stamped = tt;
+  tails = λ channel there. refl;
   kinds = tt;
   refusals = tt;
   numbers = record { differ = tt; above = tt };
@@ -58,7 +60,6 @@ at_start start clock base m0 = record {
   levels = tt;
   order = tt;
   plain_kinds = tt;
-  meets = tt;
 }
 
 lt_later : (n a b : ℕ) → a ≤ b → n < a → n < b
@@ -114,7 +115,7 @@ plain_meet (answers.Pending now guarantee channel tick) plain = absurd plain
 plain_meet (answers.Ticked ticks) plain = refl
 plain_meet (answers.Sealed seals) plain = absurd plain
 plain_meet (answers.Met reply) plain = absurd plain
-plain_meet (answers.End reply) plain = refl
+plain_meet (answers.End reply) plain = absurd plain
 plain_meet (answers.Refused reason) plain = refl
 
 plain_late : (answer : Answer) → IsPlain answer → late_of answer ≡ None
@@ -126,7 +127,7 @@ plain_late (answers.Pending now guarantee channel tick) plain = absurd plain
 plain_late (answers.Ticked ticks) plain = refl
 plain_late (answers.Sealed seals) plain = absurd plain
 plain_late (answers.Met reply) plain = absurd plain
-plain_late (answers.End reply) plain = refl
+plain_late (answers.End reply) plain = absurd plain
 plain_late (answers.Refused reason) plain = refl
 
 pub plain_seals : (answer : Answer) → IsPlain answer → seals_of answer ≡ []
@@ -138,7 +139,7 @@ plain_seals (answers.Pending now guarantee channel tick) plain = absurd plain
 plain_seals (answers.Ticked ticks) plain = refl
 plain_seals (answers.Sealed seals) plain = absurd plain
 plain_seals (answers.Met reply) plain = absurd plain
-plain_seals (answers.End reply) plain = refl
+plain_seals (answers.End reply) plain = absurd plain
 plain_seals (answers.Refused reason) plain = refl
 
 none_holds : {X : Type 0} (P : X → Type 0) (o : Option X) → o ≡ None → IfSome o P
@@ -271,6 +272,8 @@ one_more start old new lines line stands serves =
           (each_implied (λ other. Each (λ n. n < old.clock) (stamps other.answer)) (λ other. Each (λ n. n < new.clock) (stamps other.answer))
           (λ other all. each_implied (λ n. n < old.clock) (λ n. n < new.clock) (λ n low. lt_later n old.clock new.clock serves.later low) (stamps other.answer) all) lines stands.stamped)
           serves.stamped_below;
+      tails = λ channel there. tail_push start old.clock channel lines line old.tail new.tail stands.stamped serves.drawn_above (plain_seals line.answer serves.plain)
+          (stands.tails channel there) (serves.tail channel there);
       kinds = each-push (λ other. IsOfKind start other.asked other.answer) lines line stands.kinds serves.kind;
       refusals = each-push (λ other. RefusedRightly other.asked other.answer) lines line stands.refusals serves.refusal;
       numbers = more_numbers start old lines line stands serves.rising serves.drawn_above;
@@ -287,10 +290,6 @@ one_more start old new lines line stands serves =
       order = at_each-push (λ earlier other. InOrder (past_of start earlier other) other.answer) [] lines line stands.order
           (in_order start old lines (caller_of line.asked) line.answer stands serves.rising serves.drawn_above);
       plain_kinds = each-push (λ other. IsPlain other.answer) lines line stands.plain_kinds serves.plain;
-      meets = each-push (λ other. IfSome (ended_of other.answer) (CountsLive new.log)) lines line
-          (each_both (λ other. Each (λ n. n < old.clock) (stamps other.answer)) (λ other. IfSome (ended_of other.answer) (CountsLive old.log)) (λ other. IfSome (ended_of other.answer) (CountsLive new.log))
-          (λ other low right. subst (λ l. IfSome (ended_of other.answer) (CountsLive l)) (sym serves.log) (counted-more old.log more old.clock other.answer low high right)) lines stands.stamped stands.meets)
-          serves.counted;
     }
 
 -- a run from where it stands to its end

@@ -14,6 +14,7 @@ use Rattle.log_model.specs.Scans.{hit_of}
 use Rattle.answer_lines.specs.declared.reasons.Reason.TheVariants.{NotJson}
 use Rattle.answer_lines.specs.declared.answers.Wrote.{Wrote}
 use Rattle.answer_lines.specs.declared.answers.Wrote.TheVariants.{Inserted, Exists}
+use Rattle.answer_lines.specs.declared.answers.MeetReply.{MeetReply}
 use Rattle.answer_lines.specs.declared.answers.Answer.{Answer}
 use Rattle.answer_lines.specs.declared.answers.Answer.TheVariants as answers
 use Rattle.request_lines.specs.declared.requests.Ask.{Ask}
@@ -101,85 +102,107 @@ pending_line number wait now tick = ask_line number 1 (asks.Get seven Strong wai
 abbrev pub refused_line : ℕ → Line
 refused_line number = record { number = number; asked = Bad NotJson; answer = answers.Refused NotJson }
 
--- a meet that counts `tail` rows in the tail, and `waiting` segments that no node holds
-abbrev pub meet_line : ℕ → ℕ → ℕ → ℕ → ℕ → Line
-meet_line number ts live tail waiting =
-    ask_line number 0 asks.Meet (answers.Met (record { ts = stamp ts; live = live; tail = tail; waiting = waiting; node_rows = 0; node_live = 0; failed = 0 }))
+-- what is counted where no node has rows: the live keys, the rows in the tail, and the segments that wait
+abbrev pub in_tail : ℕ → ℕ → ℕ → ℕ → MeetReply
+in_tail ts live tail waiting = record { ts = stamp ts; live = live; tail = tail; waiting = waiting; node_rows = 0; node_live = 0; failed = 0 }
 
-abbrev pub end_line : ℕ → ℕ → ℕ → Line
-end_line number ts live = record { number = number; asked = Finish; answer = answers.End (record { ts = stamp ts; live = live }) }
+-- and where all rows are on nodes
+abbrev pub on_nodes : ℕ → ℕ → ℕ → ℕ → MeetReply
+on_nodes ts live node_rows node_live = record { ts = stamp ts; live = live; tail = 0; waiting = 0; node_rows = node_rows; node_live = node_live; failed = 0 }
+
+abbrev pub meet_line : ℕ → MeetReply → Line
+meet_line number counted = ask_line number 0 asks.Meet (answers.Met counted)
+
+abbrev pub end_line : ℕ → MeetReply → Line
+end_line number counted = record { number = number; asked = Finish; answer = answers.End counted }
+
+-- an end with nothing to count
+abbrev pub empty_end : ℕ → ℕ → Line
+empty_end number ts = end_line number (in_tail ts 0 0 0)
 
 -- the timestamps of two callers cross: the second one's tick is below the first one's insert; the first sees its row
 -- in a search and in a get, the second does not wait; the tail of one row is sealed
 abbrev pub legal_lines : List Bool → List Line
 legal_lines vector =
     insert_line 2 vector 2 Inserted ∷ tick_line 3 1 1 ∷ search_line 4 vector Strong 3 3 4 (found vector ∷ []) ∷ refused_line 5
-    ∷ get_line 6 vector 5 2 4 ∷ pending_line 7 false 6 4 ∷ seal_line 8 7 1 ∷ meet_line 9 8 1 0 1 ∷ end_line 10 9 1 ∷ []
+    ∷ get_line 6 vector 5 2 4 ∷ pending_line 7 false 6 4 ∷ seal_line 8 7 1 ∷ meet_line 9 (in_tail 8 1 0 1) ∷ end_line 10 (in_tail 9 1 0 1) ∷ []
 
 -- a tick that tells none
 abbrev pub without_a_tick : List Line
-without_a_tick = ask_line 2 0 asks.Tick (answers.Ticked []) ∷ end_line 3 1 0 ∷ []
+without_a_tick = ask_line 2 0 asks.Tick (answers.Ticked []) ∷ empty_end 3 1 ∷ []
 
 -- a request that is refused
 abbrev pub request_refused : List Line
-request_refused = ask_line 2 0 asks.Tick (answers.Refused NotJson) ∷ end_line 3 1 0 ∷ []
+request_refused = ask_line 2 0 asks.Tick (answers.Refused NotJson) ∷ empty_end 3 1 ∷ []
 
 -- two callers have one number
 abbrev pub number_twice : List Line
-number_twice = tick_line 2 0 1 ∷ tick_line 3 1 1 ∷ end_line 4 2 0 ∷ []
+number_twice = tick_line 2 0 1 ∷ tick_line 3 1 1 ∷ empty_end 4 2 ∷ []
 
--- the first insert of a key is told that the key is live
+-- the first insert of a key is told that the key is live; the row is counted on a node, since it is none of the tail
 abbrev pub first_exists : List Bool → List Line
-first_exists vector = insert_line 2 vector 1 Exists ∷ end_line 3 2 1 ∷ []
+first_exists vector = insert_line 2 vector 1 Exists ∷ end_line 3 (on_nodes 2 1 1 1) ∷ []
 
 -- a hit where nothing was written
 abbrev pub hit_of_nothing : List Bool → List Line
-hit_of_nothing vector = search_line 2 vector Strong 1 1 2 (found vector ∷ []) ∷ end_line 3 3 0 ∷ []
+hit_of_nothing vector = search_line 2 vector Strong 1 1 2 (found vector ∷ []) ∷ empty_end 3 3 ∷ []
 
 -- a row where nothing was written
 abbrev pub row_of_nothing : List Bool → List Line
-row_of_nothing vector = get_line 2 vector 1 0 0 ∷ end_line 3 2 0 ∷ []
+row_of_nothing vector = get_line 2 vector 1 0 0 ∷ empty_end 3 2 ∷ []
 
 -- a search at level Strong that states a guarantee below its number
 abbrev pub weak_guarantee : List Bool → List Line
-weak_guarantee vector = search_line 2 vector Strong 1 0 2 [] ∷ end_line 3 3 0 ∷ []
+weak_guarantee vector = search_line 2 vector Strong 1 0 2 [] ∷ empty_end 3 3 ∷ []
 
 -- a snapshot that is older than the guarantee
 abbrev pub older_than_guarantee : List Bool → List Line
-older_than_guarantee vector = search_line 2 vector Strong 1 1 0 [] ∷ end_line 3 2 0 ∷ []
+older_than_guarantee vector = search_line 2 vector Strong 1 1 0 [] ∷ empty_end 3 2 ∷ []
 
 -- a snapshot that is older than a tick that the caller was told
 abbrev pub older_than_known : List Bool → List Line
-older_than_known vector = tick_line 2 0 1 ∷ search_line 3 vector Eventually 2 0 0 [] ∷ end_line 4 3 0 ∷ []
+older_than_known vector = tick_line 2 0 1 ∷ search_line 3 vector Eventually 2 0 0 [] ∷ empty_end 4 3 ∷ []
 
 -- a caller's second tick is below its first
 abbrev pub falls_back : List Line
-falls_back = tick_line 2 0 2 ∷ tick_line 3 0 1 ∷ end_line 4 3 0 ∷ []
+falls_back = tick_line 2 0 2 ∷ tick_line 3 0 1 ∷ empty_end 4 3 ∷ []
 
 -- a tick of another caller that is below the meet before it
 abbrev pub falls_behind_a_meet : List Line
-falls_behind_a_meet = meet_line 2 2 0 0 0 ∷ tick_line 3 1 1 ∷ end_line 4 3 0 ∷ []
+falls_behind_a_meet = meet_line 2 (in_tail 2 0 0 0) ∷ tick_line 3 1 1 ∷ empty_end 4 3 ∷ []
 
 -- a get that may wait is pending
 abbrev pub pends_though_it_waits : List Line
-pends_though_it_waits = pending_line 2 true 1 0 ∷ end_line 3 2 0 ∷ []
+pends_though_it_waits = pending_line 2 true 1 0 ∷ empty_end 3 2 ∷ []
 
 -- a get is pending for a tick that reaches its guarantee
 abbrev pub pends_at_its_guarantee : List Line
-pends_at_its_guarantee = pending_line 2 false 1 1 ∷ end_line 3 2 0 ∷ []
+pends_at_its_guarantee = pending_line 2 false 1 1 ∷ empty_end 3 2 ∷ []
 
 -- a seal that tells no row of a tail that has one
 abbrev pub seals_no_row : List Bool → List Line
-seals_no_row vector = insert_line 2 vector 1 Inserted ∷ seal_line 3 2 0 ∷ end_line 4 3 1 ∷ []
+seals_no_row vector = insert_line 2 vector 1 Inserted ∷ seal_line 3 2 0 ∷ end_line 4 (in_tail 3 1 0 1) ∷ []
 
 -- a meet that leaves the tail out
 abbrev pub leaves_the_tail_out : List Bool → List Line
-leaves_the_tail_out vector = insert_line 2 vector 1 Inserted ∷ meet_line 3 2 1 0 1 ∷ end_line 4 3 1 ∷ []
+leaves_the_tail_out vector = insert_line 2 vector 1 Inserted ∷ meet_line 3 (on_nodes 2 1 1 1) ∷ end_line 4 (in_tail 3 1 1 0) ∷ []
 
 -- a meet where more segments wait than were made
 abbrev pub too_many_wait : List Bool → List Line
-too_many_wait vector = insert_line 2 vector 1 Inserted ∷ meet_line 3 2 1 1 1 ∷ end_line 4 3 1 ∷ []
+too_many_wait vector = insert_line 2 vector 1 Inserted ∷ meet_line 3 (in_tail 2 1 1 1) ∷ end_line 4 (in_tail 3 1 1 0) ∷ []
 
 -- a live row is counted where nothing was written
 abbrev pub counts_too_many : List Line
-counts_too_many = end_line 2 1 1 ∷ []
+counts_too_many = end_line 2 (on_nodes 1 1 1 1) ∷ []
+
+-- an end that leaves the tail out
+abbrev pub end_leaves_the_tail_out : List Bool → List Line
+end_leaves_the_tail_out vector = insert_line 2 vector 1 Inserted ∷ end_line 3 (on_nodes 2 1 1 1) ∷ []
+
+-- an end where more segments wait than were made
+abbrev pub too_many_wait_at_the_end : List Bool → List Line
+too_many_wait_at_the_end vector = insert_line 2 vector 1 Inserted ∷ end_line 3 (in_tail 2 1 1 1) ∷ []
+
+-- an end where more than half of the rows on nodes are dead, though nothing failed
+abbrev pub end_keeps_dead_rows : List Line
+end_keeps_dead_rows = end_line 2 (on_nodes 1 0 1 0) ∷ []

@@ -15,12 +15,11 @@ use Rattle.log_model.specs.Scans.{scan}
 use Rattle.answer_lines.specs.declared.answers.Wrote.{Wrote}
 use Rattle.answer_lines.specs.declared.answers.Wrote.TheVariants.{Inserted, Exists, Was}
 use Rattle.answer_lines.specs.declared.answers.MeetReply.{MeetReply}
-use Rattle.answer_lines.specs.declared.answers.EndReply.{EndReply}
 use Rattle.answer_lines.specs.declared.answers.Answer.{Answer}
 use Rattle.answer_lines.specs.declared.answers.Answer.TheVariants as answers
 use Rattle.request_lines.specs.declared.requests.Ask.{Ask}
 use Rattle.request_lines.specs.declared.requests.Ask.TheVariants as asks
-use Rattle.legal_output.specs.Lines.{Asked, Bad, Given, Line, Start, Reading, Stated, Snapshot, Late, changes_of, reading_of, written_of, stated_of, snapshot_of, late_of, seals_of, met_of, ended_of, drawn, IsOfKind}
+use Rattle.legal_output.specs.Lines.{Asked, Bad, Given, Line, Start, Reading, Stated, Snapshot, Late, changes_of, reading_of, written_of, stated_of, snapshot_of, late_of, seals_of, met_of, drawn, IsOfKind}
 use Rattle.legal_output.specs.Printed.{Tail, Past, printed_log, printed_tail, tail_before, sum_over, past_of, all_drawn, phase_failures}
 
 -- a fact of each line, given the lines before it
@@ -131,10 +130,8 @@ PendingRightly channels past asked answer = IfSome (reading_of channels asked) (
 
 -- ---- meets
 
-abbrev pub CountsLive : List Entry → EndReply → Type 0
-CountsLive log counted = counted.live ≡ fin.len (live log counted.ts.0)
-
--- what is counted at a meet, where the tails of the channels are `tails` and the lines of the phase told `failures`
+-- what is counted at a meet or the end, where the tails of the channels are `tails` and the lines of the phase told
+-- `failures`
 pub record Counts (start : Start) (log : List Entry) (tails : ℕ → Tail) (failures : ℕ) (counted : MeetReply) : Type 0 where
   pub live : counted.live ≡ fin.len (live log counted.ts.0)
   pub tail : counted.tail ≡ sum_over start.channels (λ channel. (tails channel).rows)
@@ -154,7 +151,6 @@ AreTails tail_at channel (seal ∷ seals) = (seal.1 ≡ (tail_at seal.0.0 channe
 pub record CountsRightly (start : Start) (lines earlier : List Line) (answer : Answer) : Type 0 where
   pub sealed : AreTails (tail_before start lines) 0 (seals_of answer)
   pub met : IfSome (met_of answer) (λ counted. Counts start (printed_log start lines) (printed_tail start lines counted.ts.0) (phase_failures 0 earlier) counted)
-  pub ended : IfSome (ended_of answer) (CountsLive (printed_log start lines))
 
 -- The clauses, each over all lines:
 --   form       one line for each that was asked, in order, with its number and of its kind

@@ -19,7 +19,6 @@ use Rattle.answer_lines.specs.declared.answers.Wrote.{Wrote}
 use Rattle.answer_lines.specs.declared.answers.Wrote.TheVariants.{Inserted, Exists, Was}
 use Rattle.answer_lines.specs.declared.answers.Named.{Named}
 use Rattle.answer_lines.specs.declared.answers.MeetReply.{MeetReply}
-use Rattle.answer_lines.specs.declared.answers.EndReply.{EndReply}
 use Rattle.answer_lines.specs.declared.answers.Answer.{Answer}
 use Rattle.answer_lines.specs.declared.answers.Answer.TheVariants as answers
 use Rattle.request_lines.specs.declared.requests.Request.{Request}
@@ -144,15 +143,11 @@ abbrev pub seals_of : Answer → List (Timestamp × ℕ)
 seals_of (answers.Sealed seals) = seals
 seals_of answer = []
 
--- what was counted when all work had come to rest
+-- what was counted when all work had come to rest: at a meet, and at the end of the input, which is the last one
 abbrev pub met_of : Answer → Option MeetReply
 met_of (answers.Met reply) = Some reply
+met_of (answers.End reply) = Some reply
 met_of answer = None
-
--- what was counted at the end of the input
-abbrev pub ended_of : Answer → Option EndReply
-ended_of (answers.End reply) = Some reply
-ended_of answer = None
 
 -- the failures that an answer tells; no kind of answer tells any yet
 abbrev pub failures_of : Answer → ℕ

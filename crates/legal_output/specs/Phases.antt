@@ -9,14 +9,13 @@ use Rattle.log_model.specs.declared.logs.Entry.{Entry}
 use Rattle.log_model.specs.Logs.{key_of, live}
 use Rattle.log_model.specs.Scans.{scan}
 use Rattle.answer_lines.specs.declared.answers.MeetReply.{MeetReply}
-use Rattle.answer_lines.specs.declared.answers.EndReply.{EndReply}
 use Rattle.answer_lines.specs.declared.answers.Answer.{Answer}
 use Rattle.answer_lines.specs.declared.answers.Answer.TheVariants as answers
 use Rattle.request_lines.specs.declared.requests.Ask.{Ask}
 use Rattle.request_lines.specs.declared.requests.Ask.TheVariants as asks
-use Rattle.legal_output.specs.Lines.{Asked, Given, Finish, Line, Start, channel_of, changes_of, written_of, seals_of, met_of, ended_of, drawn, stamps, IsOfKind}
+use Rattle.legal_output.specs.Lines.{Asked, Given, Finish, Line, Start, channel_of, changes_of, written_of, seals_of, met_of, drawn, stamps, IsOfKind}
 use Rattle.legal_output.specs.Printed.{Event, Tail, Past, ordered, entries_of, events_of, walk, all_drawn, all_stamps, all_ticks_shown, lines_of, greatest, write_behind, phase_failures}
-use Rattle.legal_output.specs.Legal.{AtEach, RefusedRightly, Differ, reply, HasLevel, InOrder, PendingRightly, AreTails, Counts, CountsLive}
+use Rattle.legal_output.specs.Legal.{AtEach, RefusedRightly, Differ, reply, HasLevel, InOrder, PendingRightly, AreTails, Counts}
 
 -- the next number, the number of the last meet, the timestamp of each caller's last write, the log of each channel,
 -- what happened to its tail, and the failures of the phase so far
@@ -82,14 +81,13 @@ pub record Called (channels met written : ℕ) (earlier : List Line) (line : Lin
   pub order : InOrder (past_in_phase channels met written earlier) line.answer
   pub pending : PendingRightly channels (past_in_phase channels met written earlier) line.asked line.answer
 
--- a line of a phase: it is a caller's, or is refused, and no meet
+-- a line of a phase: it is a caller's, or is refused, and neither a meet nor the end
 pub record InPhase (start : Start) (old new : Running) (line : Line) : Type 0 where
   pub kind : IsOfKind start line.asked line.answer
   pub refusal : RefusedRightly line.asked line.answer
   pub drawn : Each (λ n. old.clock ≤ n) (drawn line.answer)
   pub stamped : Each (λ n. n < new.clock) (stamps line.answer)
   pub unmet : met_of line.answer ≡ None
-  pub unended : ended_of line.answer ≡ None
   pub replied : RepliedByChannel start.channels new.logs line.asked line.answer
   pub content : ContentByChannel start new.logs line.asked line.answer
   pub sealed : AreTails (tail_below start.seal_rows new.events) 0 (seals_of line.answer)
@@ -128,13 +126,13 @@ pub record MeetFacts (start : Start) (old new : Running) (line : Line) : Type 0 
 
 -- the end of the input, on shards at rest
 pub record EndFacts (start : Start) (old : Running) (line : Line) : Type 0 where
-  pub counted : EndReply
+  pub counted : MeetReply
   pub asked : line.asked ≡ Finish
   pub answer : line.answer ≡ answers.End counted
   pub drawn : old.clock ≤ counted.ts.0
   pub log : List Entry
   pub whole : IsWhole start.channels old.logs log
-  pub counts : CountsLive log counted
+  pub counts : Counts start log (tail_at start.seal_rows old.events counted.ts.0) old.failures counted
 
 -- the values that a run starts with
 pub record Begins (start : Start) (first : Running) : Type 0 where

@@ -6,6 +6,7 @@ ghost use Rattle.legal_output.specs.Examples.{Form, Refusals, Numbers, Writes, C
 ghost use Rattle.legal_output.specs.Examples.{legal_lines, without_a_tick, request_refused, number_twice, first_exists, hit_of_nothing, row_of_nothing};
 ghost use Rattle.legal_output.specs.Examples.{weak_guarantee, older_than_guarantee, older_than_known, falls_back, falls_behind_a_meet, pends_though_it_waits};
 ghost use Rattle.legal_output.specs.Examples.{pends_at_its_guarantee, seals_no_row, leaves_the_tail_out, too_many_wait, counts_too_many};
+ghost use Rattle.legal_output.specs.Examples.{end_leaves_the_tail_out, too_many_wait_at_the_end, end_keeps_dead_rows};
 
 /// An output that is legal, and for each clause some that break it and no other. This call does
 /// nothing.
@@ -28,4 +29,7 @@ pub fn clauses_are_needed()
     ensures tail { (vector : List Bool) → BreaksJust one_channel (leaves_the_tail_out vector) Meets }
     ensures waiting { (vector : List Bool) → BreaksJust one_channel (too_many_wait vector) Meets }
     ensures meets { BreaksJust one_channel counts_too_many Meets }
+    ensures end_tail { (vector : List Bool) → BreaksJust one_channel (end_leaves_the_tail_out vector) Meets }
+    ensures end_waiting { (vector : List Bool) → BreaksJust one_channel (too_many_wait_at_the_end vector) Meets }
+    ensures end_merged { BreaksJust one_channel end_keeps_dead_rows Meets }
 {}

@@ -1,25 +1,25 @@
 //! From what was done to what may be printed.
 
-ghost use Rattle.std.specs.Prelude.{◌≡◌, ◌≢◌, ℕ, ℤ, ◌<◌, [], ◌∷◌, ◌++◌, List, map};
+ghost use Rattle.std.specs.Prelude.{◌≡◌, ℕ, ℤ, ◌<◌, [], ◌∷◌, ◌++◌, List, map};
 ghost use Rattle.std.specs.List.{AllByRecursion};
 ghost use Rattle.log_model.specs.declared.logs.Entry.{Entry};
+ghost use Rattle.answer_lines.specs.declared.answers.MeetReply.{MeetReply};
 ghost use Rattle.answer_lines.specs.declared.answers.Answer.{Answer};
-ghost use Rattle.legal_output.specs.Lines.{Asked, Finish, Line, Start, channel_of};
+ghost use Rattle.legal_output.specs.Lines.{Asked, Line, Start, channel_of};
 ghost use Rattle.legal_output.specs.Legal.{Numbered, HasLevel, InOrder, PendingRightly, IsLegal};
-ghost use Rattle.legal_output.specs.Runs.{Plain, Run, Serves, begun, end_line};
+ghost use Rattle.legal_output.specs.Runs.{Plain, Run, Ends, begun, end_line};
 ghost use Rattle.legal_output.specs.Printed.{Event, Past, ordered};
 ghost use Rattle.legal_output.specs.Phases.{IsWithin, Running, Phase, PhaseFacts, EndFacts, Begins, RunOver, lines_in, of_key};
 ghost use Rattle.legal_output.specs.Members.{GrewByEntries, GrewByEvents};
 
-/// A run that serves each line as its account says is a phase, and with its end it is legal, where
-/// its first number is above all that was there before. This call does nothing.
+/// A run that serves each line and ends as its account says is a phase, and with its end it is
+/// legal, where its first number is above all that was there before. This call does nothing.
 pub fn runs_are_legal()
-    ensures { (start : Start) (first : ℕ) (last new : Plain) (asks : List Asked) (block : List Line) (number : ℕ) (answer : Answer)
+    ensures { (start : Start) (first : ℕ) (last : Plain) (asks : List Asked) (block : List Line) (number : ℕ) (counted : MeetReply)
         → AllByRecursion (λ entry. entry.ts.0 < first) start.base → start.m0 < first
-        → Run start (begun start first) block last → AllByRecursion (λ line. line.asked ≢ Finish) block
-        → Serves start last Finish answer new
-        → Numbered 2 (block ++ end_line number answer ∷ []) → map (λ line. line.asked) (block ++ end_line number answer ∷ []) ≡ asks
-        → IsLegal start asks (block ++ end_line number answer ∷ []) }
+        → Run start (begun start first) block last → Ends start last counted
+        → Numbered 2 (block ++ end_line number counted ∷ []) → map (λ line. line.asked) (block ++ end_line number counted ∷ []) ≡ asks
+        → IsLegal start asks (block ++ end_line number counted ∷ []) }
 {}
 
 /// A run over phases, each with a meet behind it, is legal where each phase and each meet keep what

@@ -1,21 +1,21 @@
 -- Answering line by line.
-use Rattle.std.proofs.Common.{◌≡◌, ◌≢◌, ℕ, suc, Result, Ok, Err, ◌+◌, ◌<◌, ◌≤◌, List, [], ◌∷◌, ◌++◌, map, length, refl, sym, ap, ◌∙◌, subst, arith, Some, add-zero, append-nil, append_assoc, length-append}
+use Rattle.std.proofs.Common.{◌≡◌, ℕ, suc, ◌+◌, ◌<◌, ◌≤◌, List, [], ◌∷◌, ◌++◌, map, length, refl, sym, ap, ◌∙◌, subst, arith, Some, add-zero, append-nil, append_assoc, length-append}
 use Rattle.std.specs.List.{AllByRecursion as Each, flat_map}
 use Rattle.hybrid_time.specs.Times.{of_moment}
 use Rattle.coarse_lists.specs.declared.collections.Collection.{Collection}
 use Rattle.answer_lines.specs.declared.reasons.Reason.{Reason}
+use Rattle.answer_lines.specs.declared.answers.MeetReply.{MeetReply}
 use Rattle.answer_lines.specs.declared.answers.Answer.TheVariants as answers
 use Rattle.answer_lines.specs.Lines.{text_of}
 use Rattle.request_lines.specs.Headers.{header_of}
 use Rattle.input_lines.specs.Lines.{lines_of, first_line, other_lines, behind_first}
-use Rattle.request_lines.specs.declared.requests.Request.{Request}
 use Rattle.request_lines.specs.Requests.{request_of}
 use Rattle.log_model.proofs.LogLaws.{each-append, each_implied}
 use Rattle.legal_output.specs.Lines.{Asked, Bad, Finish, Line, Start, drawn}
 use Rattle.legal_output.specs.Printed.{all_drawn}
 use Rattle.legal_output.specs.Legal.{Numbered}
 use Rattle.legal_output.specs.Outputs.{asks_of, asked_of, start_of, printed, text_of_line, IsLegalOutput}
-use Rattle.legal_output.specs.Runs.{Plain, Serves, begun, end_line}
+use Rattle.legal_output.specs.Runs.{Plain, Serves, Ends, begun, end_line}
 use Rattle.legal_output.proofs.Grown.{flat_map-push}
 use Rattle.legal_output.proofs.Stands.{run-push}
 use Rattle.legal_output.proofs.Alone.{alone_legal}
@@ -36,12 +36,12 @@ refused_serves start plain reason reached = record {
   tick = omega arith;
   told = λ channel. tt;
   reached = reached;
+  tail = λ channel there. refl;
   kind = tt;
   refusal = refl;
   replied = tt;
   content = tt;
   level = tt;
-  counted = tt;
 }
 
 numbered-push : (n : ℕ) (lines : List Line) (line : Line) → Numbered n lines → line.number ≡ n + length lines → Numbered n (lines ++ line ∷ [])
@@ -128,30 +128,18 @@ partly_line collection least all lines more text number old new mid now cut befo
     subst (λ (o : List ℕ). IsPartly (start_of collection) least all (asked_in collection more) (number + 1) o now) (sym step.1)
     (partly_more (start_of collection) least all (asked_in collection more) (asked_of (request_of collection text)) number old step.0 mid now here step.2)
 
-each-map : {X A : Type 0} (P : A → Type 0) (f : X → A) (xs : List X) → Each P (map f xs) → Each (λ x. P (f x)) xs
-each-map P f [] all = tt
-each-map P f (x ∷ xs) all = (all.0, each-map P f xs all.1)
-
-unfinished_line : (read : Result Request Reason) → asked_of read ≢ Finish
-unfinished_line (Ok request) = λ e. cc
-unfinished_line (Err reason) = λ e. cc
-
--- no line of the input is its end
-unfinished : (collection : Collection) (lines : List (List ℕ)) → Each (λ asked. asked ≢ Finish) (asked_in collection lines)
-unfinished collection [] = tt
-unfinished collection (line ∷ lines) = (unfinished_line (request_of collection line), unfinished collection lines)
-
 -- all lines and the end are answered
-pub legal_from : (collection : Collection) (least : ℕ) (input old new text : List ℕ) (number : ℕ) (mid now : Plain)
+pub legal_from : (collection : Collection) (least : ℕ) (input old new : List ℕ) (number : ℕ) (last : Plain) (counted : MeetReply)
     → header_of (first_line input) ≡ Some collection
-    → IsPartly (start_of collection) least (asked_in collection (other_lines input)) [] number old mid
-    → new ≡ old ++ text
-    → Adds (start_of collection) least number Finish mid now text
+    → IsPartly (start_of collection) least (asked_in collection (other_lines input)) [] number old last
+    → new ≡ old ++ text_of number (answers.End counted)
+    → Ends (start_of collection) last counted
+    → least ≤ counted.ts.0
     → IsLegalFrom least input new
-legal_from collection least input old new text number mid now header partly grown step =
+legal_from collection least input old new number last counted header partly grown ends from =
     let start : Start = start_of collection in
     let block : List Line = partly.answered.lines in
-    let line : Line = end_line number step.answer in
+    let line : Line = end_line number counted in
     let all : asked_in collection (other_lines input) ≡ partly.done = partly.split ∙ append-nil partly.done in
     let asks : map (λ l. l.asked) block ≡ asked_in collection (other_lines input) = partly.answered.asked ∙ sym all in
     let size : length block ≡ length partly.done = sym (length-map-asked block) ∙ ap length partly.answered.asked in
@@ -160,11 +148,10 @@ legal_from collection least input old new text number mid now header partly grow
       collection = collection;
       header = header;
       lines = block ++ line ∷ [];
-      text = grown ∙ ap (λ l. l ++ text) partly.answered.text ∙ ap (λ l. printed block ++ l) step.printed_as ∙ printed_more block line;
-      legal = alone_legal start 1 mid now (asks_of collection input) block number step.answer tt (omega arith) partly.answered.run
-          (each-map (λ asked. asked ≢ Finish) (λ l. l.asked) block (subst (Each (λ asked. asked ≢ Finish)) (sym asks) (unfinished collection (other_lines input))))
-          step.serves numbered (map-push block line ∙ ap (λ l. l ++ Finish ∷ []) asks);
-      drawn_from = drawn-push least block line partly.answered.drawn_from step.drawn_from;
+      text = grown ∙ ap (λ l. l ++ text_of number (answers.End counted)) partly.answered.text ∙ printed_more block line;
+      legal = alone_legal start 1 last (asks_of collection input) block number counted tt (omega arith) partly.answered.run
+          ends numbered (map-push block line ∙ ap (λ l. l ++ Finish ∷ []) asks);
+      drawn_from = drawn-push least block line partly.answered.drawn_from (from, tt);
     }
 
 pub legal_output : (least : ℕ) (input output : List ℕ) → IsLegalFrom least input output → IsLegalOutput input output

@@ -40,7 +40,7 @@ pub fn answer_input<M: Moments>(
     requires in_range { IsInRange input.now.collection }
     ensures { IfOk result (λ output. IsLegalFrom (of_moment (least_of pace (M.least moments.now))) input.now.bytes.items output.items) }
 {
-    let mut run = PlainRun::new(alloc);
+    let mut run = PlainRun::new(alloc, &input.collection);
     let mut output = line(alloc, 1, &Answer::Created)?;
     let rest = behind_header(&input.bytes);
     let number = answer_lines(
@@ -76,7 +76,7 @@ fn answer_lines<M: Moments>(
     ensures answered { let asks = asked_in collection.now (lines_of lines.now) in
         let least = of_moment (least_of pace (M.least moments.now)) in
         IfOk result (λ number. IsPartly (start_of collection.now) least asks [] number output.new.items (plain_of run.new)) }
-    ensures room { OnOk result ((plain_of run.new).clock + 3 < 2 ^ 64) }
+    ensures run { IsRunOf collection.now run.new }
     ensures number { IfOk result (λ number. number < 2 ^ 21) }
 {
     let mut number: u32 = 2;

@@ -17,7 +17,10 @@ fn a_write_is_found_by_a_strong_search(rt: HostRuntime) -> Result<(), Fail> {
         &rt,
         rt.alloc(),
         &[CREATE],
-        &[CREATED, "{\"answer\":\"end\",\"live\":0,\"ts\":1}"],
+        &[
+            CREATED,
+            "{\"answer\":\"end\",\"failed\":0,\"live\":0,\"node_live\":0,\"node_rows\":0,\"tail\":0,\"ts\":1,\"waiting\":0}",
+        ],
     )?;
     check(
         &rt,
@@ -27,7 +30,7 @@ fn a_write_is_found_by_a_strong_search(rt: HostRuntime) -> Result<(), Fail> {
             CREATED,
             "{\"answer\":\"ok\",\"line\":2,\"ts\":1}",
             "{\"answer\":\"hits\",\"guarantee\":2,\"hits\":[[0,1]],\"line\":3,\"now\":2,\"ts\":3}",
-            "{\"answer\":\"end\",\"live\":1,\"ts\":4}",
+            "{\"answer\":\"end\",\"failed\":0,\"live\":1,\"node_live\":0,\"node_rows\":0,\"tail\":1,\"ts\":4,\"waiting\":0}",
         ],
     )?;
     check(
@@ -39,7 +42,7 @@ fn a_write_is_found_by_a_strong_search(rt: HostRuntime) -> Result<(), Fail> {
             "{\"answer\":\"ok\",\"line\":2,\"ts\":1}",
             "{\"answer\":\"refused\",\"line\":3,\"reason\":\"NoVector\"}",
             "{\"answer\":\"hits\",\"guarantee\":2,\"hits\":[[0,1]],\"line\":4,\"now\":2,\"ts\":3}",
-            "{\"answer\":\"end\",\"live\":1,\"ts\":4}",
+            "{\"answer\":\"end\",\"failed\":0,\"live\":1,\"node_live\":0,\"node_rows\":0,\"tail\":1,\"ts\":4,\"waiting\":0}",
         ],
     )?;
     Ok(())
@@ -55,7 +58,7 @@ fn a_live_key_is_not_inserted_again(rt: HostRuntime) -> Result<(), Fail> {
             CREATED,
             "{\"answer\":\"ok\",\"line\":2,\"ts\":1}",
             "{\"answer\":\"exists\",\"line\":3,\"ts\":2}",
-            "{\"answer\":\"end\",\"live\":1,\"ts\":3}",
+            "{\"answer\":\"end\",\"failed\":0,\"live\":1,\"node_live\":0,\"node_rows\":0,\"tail\":1,\"ts\":3,\"waiting\":0}",
         ],
     )?;
     Ok(())
@@ -75,7 +78,7 @@ fn a_snapshot_is_as_old_as_its_level_allows(rt: HostRuntime) -> Result<(), Fail>
             CREATED,
             "{\"answer\":\"ok\",\"line\":2,\"ts\":1}",
             "{\"answer\":\"hits\",\"guarantee\":0,\"hits\":[],\"line\":3,\"now\":2,\"ts\":0}",
-            "{\"answer\":\"end\",\"live\":1,\"ts\":3}",
+            "{\"answer\":\"end\",\"failed\":0,\"live\":1,\"node_live\":0,\"node_rows\":0,\"tail\":1,\"ts\":3,\"waiting\":0}",
         ],
     )?;
     check(
@@ -92,7 +95,7 @@ fn a_snapshot_is_as_old_as_its_level_allows(rt: HostRuntime) -> Result<(), Fail>
             "{\"answer\":\"ok\",\"line\":2,\"ts\":1}",
             "{\"answer\":\"ticked\",\"line\":3,\"ticks\":[2]}",
             "{\"answer\":\"hits\",\"guarantee\":1,\"hits\":[[0,1]],\"line\":4,\"now\":3,\"ts\":2}",
-            "{\"answer\":\"end\",\"live\":1,\"ts\":4}",
+            "{\"answer\":\"end\",\"failed\":0,\"live\":1,\"node_live\":0,\"node_rows\":0,\"tail\":1,\"ts\":4,\"waiting\":0}",
         ],
     )?;
     Ok(())
@@ -114,7 +117,7 @@ fn a_tie_goes_to_the_smaller_key(rt: HostRuntime) -> Result<(), Fail> {
             "{\"answer\":\"ok\",\"line\":2,\"ts\":1}",
             "{\"answer\":\"ok\",\"line\":3,\"ts\":2}",
             "{\"answer\":\"hits\",\"guarantee\":3,\"hits\":[[1,3]],\"line\":4,\"now\":3,\"ts\":4}",
-            "{\"answer\":\"end\",\"live\":2,\"ts\":5}",
+            "{\"answer\":\"end\",\"failed\":0,\"live\":2,\"node_live\":0,\"node_rows\":0,\"tail\":2,\"ts\":5,\"waiting\":0}",
         ],
     )?;
     Ok(())
@@ -140,7 +143,7 @@ fn a_deleted_row_is_not_found_and_does_not_count(rt: HostRuntime) -> Result<(), 
             "{\"answer\":\"ok\",\"line\":4,\"ts\":3,\"was\":false}",
             "{\"answer\":\"ok\",\"line\":5,\"ts\":4,\"was\":true}",
             "{\"answer\":\"hits\",\"guarantee\":5,\"hits\":[],\"line\":6,\"now\":5,\"ts\":6}",
-            "{\"answer\":\"end\",\"live\":0,\"ts\":7}",
+            "{\"answer\":\"end\",\"failed\":0,\"live\":0,\"node_live\":0,\"node_rows\":0,\"tail\":2,\"ts\":7,\"waiting\":0}",
         ],
     )?;
     Ok(())

@@ -84,7 +84,7 @@ fn a_fault_comes_exactly_where_a_call_fails(rt: HostRuntime) -> Result<(), Fail>
         &[
             "{\"answer\":\"created\",\"line\":1}",
             "{\"answer\":\"ok\",\"line\":2,\"ts\":1}",
-            "{\"answer\":\"end\",\"live\":1,\"ts\":2}",
+            "{\"answer\":\"end\",\"failed\":0,\"live\":1,\"node_live\":0,\"node_rows\":0,\"tail\":1,\"ts\":2,\"waiting\":0}",
         ],
     )?;
     for call in 1..=8 {
@@ -209,7 +209,7 @@ fn each_request_reads_the_moment_anew(rt: HostRuntime) -> Result<(), Fail> {
             "{\"answer\":\"created\",\"line\":1}",
             "{\"answer\":\"ok\",\"line\":2,\"ts\":2621440000}",
             "{\"answer\":\"hits\",\"guarantee\":1310720001,\"hits\":[[0,1]],\"line\":3,\"now\":2621440001,\"ts\":2621440002}",
-            "{\"answer\":\"end\",\"live\":1,\"ts\":2621440003}",
+            "{\"answer\":\"end\",\"failed\":0,\"live\":1,\"node_live\":0,\"node_rows\":0,\"tail\":1,\"ts\":2621440003,\"waiting\":0}",
         ],
     )?;
     assert_eq!(rt; output.as_slice(), wanted.as_slice());
@@ -226,7 +226,7 @@ fn each_request_reads_the_moment_anew(rt: HostRuntime) -> Result<(), Fail> {
             "{\"answer\":\"created\",\"line\":1}",
             "{\"answer\":\"ok\",\"line\":2,\"ts\":2621440000}",
             "{\"answer\":\"hits\",\"guarantee\":3932160000,\"hits\":[[0,1]],\"line\":3,\"now\":5242880000,\"ts\":5242880001}",
-            "{\"answer\":\"end\",\"live\":1,\"ts\":7864320000}",
+            "{\"answer\":\"end\",\"failed\":0,\"live\":1,\"node_live\":0,\"node_rows\":0,\"tail\":1,\"ts\":7864320000,\"waiting\":0}",
         ],
     )?;
     assert_eq!(rt; output.as_slice(), wanted.as_slice());
@@ -253,7 +253,7 @@ fn a_refused_line_reads_no_moment(rt: HostRuntime) -> Result<(), Fail> {
             "{\"answer\":\"created\",\"line\":1}",
             "{\"answer\":\"refused\",\"line\":2,\"reason\":\"NotJson\"}",
             "{\"answer\":\"ok\",\"line\":3,\"ts\":2621440000}",
-            "{\"answer\":\"end\",\"live\":1,\"ts\":5242880000}",
+            "{\"answer\":\"end\",\"failed\":0,\"live\":1,\"node_live\":0,\"node_rows\":0,\"tail\":1,\"ts\":5242880000,\"waiting\":0}",
         ],
     )?;
     assert_eq!(rt; output.as_slice(), wanted.as_slice());

@@ -33,7 +33,7 @@ fn near_duplicates_are_found(rt: HostRuntime) -> Result<(), Fail> {
         r#"{"answer":"ticked","line":10,"ticks":[11]}"#,
         r#"{"answer":"hits","guarantee":0,"hits":[[0,40017],[4,51200]],"line":11,"now":12,"ts":11}"#,
         r#"{"answer":"refused","line":12,"reason":"BadVector"}"#,
-        r#"{"answer":"end","live":2,"ts":13}"#,
+        r#"{"answer":"end","failed":0,"live":2,"node_live":0,"node_rows":0,"tail":4,"ts":13,"waiting":0}"#,
     ];
     check(&rt, rt.alloc(), &input, &answers)?;
     Ok(())

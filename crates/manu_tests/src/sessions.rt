@@ -24,7 +24,7 @@ fn jaccard_distances_are_fractions(rt: HostRuntime) -> Result<(), Fail> {
             "{\"answer\":\"ok\",\"line\":2,\"ts\":1}",
             "{\"answer\":\"ok\",\"line\":3,\"ts\":2}",
             "{\"answer\":\"hits\",\"guarantee\":3,\"hits\":[[0,1,1],[8,8,2]],\"line\":4,\"now\":3,\"ts\":4}",
-            "{\"answer\":\"end\",\"live\":2,\"ts\":5}",
+            "{\"answer\":\"end\",\"failed\":0,\"live\":2,\"node_live\":0,\"node_rows\":0,\"tail\":2,\"ts\":5,\"waiting\":0}",
         ],
     )?;
     Ok(())
@@ -46,7 +46,7 @@ fn equal_fractions_go_to_the_smaller_key(rt: HostRuntime) -> Result<(), Fail> {
             "{\"answer\":\"ok\",\"line\":2,\"ts\":1}",
             "{\"answer\":\"ok\",\"line\":3,\"ts\":2}",
             "{\"answer\":\"hits\",\"guarantee\":3,\"hits\":[[2,4,5],[1,2,7]],\"line\":4,\"now\":3,\"ts\":4}",
-            "{\"answer\":\"end\",\"live\":2,\"ts\":5}",
+            "{\"answer\":\"end\",\"failed\":0,\"live\":2,\"node_live\":0,\"node_rows\":0,\"tail\":2,\"ts\":5,\"waiting\":0}",
         ],
     )?;
     Ok(())
@@ -72,7 +72,7 @@ fn a_filter_asks_for_fields(rt: HostRuntime) -> Result<(), Fail> {
             "{\"answer\":\"ok\",\"line\":4,\"ts\":3}",
             "{\"answer\":\"ok\",\"line\":5,\"ts\":4}",
             "{\"answer\":\"hits\",\"guarantee\":5,\"hits\":[[0,101],[8,104]],\"line\":6,\"now\":5,\"ts\":6}",
-            "{\"answer\":\"end\",\"live\":4,\"ts\":7}",
+            "{\"answer\":\"end\",\"failed\":0,\"live\":4,\"node_live\":0,\"node_rows\":0,\"tail\":4,\"ts\":7,\"waiting\":0}",
         ],
     )?;
     Ok(())
@@ -135,7 +135,7 @@ fn the_greatest_dimension_and_the_greatest_k(rt: HostRuntime) -> Result<(), Fail
             "{\"answer\":\"ok\",\"line\":3,\"ts\":2}",
             "{\"answer\":\"ok\",\"line\":4,\"ts\":3}",
             "{\"answer\":\"hits\",\"guarantee\":4,\"hits\":[[0,1],[1,3],[4096,2]],\"line\":5,\"now\":4,\"ts\":5}",
-            "{\"answer\":\"end\",\"live\":3,\"ts\":6}",
+            "{\"answer\":\"end\",\"failed\":0,\"live\":3,\"node_live\":0,\"node_rows\":0,\"tail\":3,\"ts\":6,\"waiting\":0}",
         ],
     )?;
     assert_eq!(rt; status, Status::Done);
@@ -177,7 +177,7 @@ fn each_reason_is_given_where_it_holds(rt: HostRuntime) -> Result<(), Fail> {
             "{\"answer\":\"refused\",\"line\":11,\"reason\":\"BadK\"}",
             "{\"answer\":\"refused\",\"line\":12,\"reason\":\"BadLevel\"}",
             "{\"answer\":\"refused\",\"line\":13,\"reason\":\"BadFilter\"}",
-            "{\"answer\":\"end\",\"live\":0,\"ts\":1}",
+            "{\"answer\":\"end\",\"failed\":0,\"live\":0,\"node_live\":0,\"node_rows\":0,\"tail\":0,\"ts\":1,\"waiting\":0}",
         ],
     )?;
     Ok(())

@@ -3,3 +3,4 @@ pub mod Served
 pub mod Keys
 pub mod Firsts
 pub mod Fits
+pub mod Counted

@@ -1,5 +1,5 @@
 -- What each kind of request leaves keeps the account of a run.
-use Rattle.std.proofs.Common.{◌≡◌, ℕ, zero, suc, ◌+◌, ◌-◌, ◌*◌, ◌^◌, ◌<◌, ◌≤◌, ◌⊎◌, inl, inr, Bool, true, false, List, [], ◌∷◌, ◌++◌, map, take, drop, refl, sym, ap, subst, ◌∙◌, arith}
+use Rattle.std.proofs.Common.{◌≡◌, ℕ, zero, suc, ◌+◌, ◌-◌, ◌*◌, ◌^◌, ◌<◌, ◌≤◌, ◌⊎◌, inl, inr, Bool, true, false, List, [], ◌∷◌, ◌++◌, map, refl, sym, ap, subst, ◌∙◌, zero-add, arith}
 use Rattle.std.specs.Prelude.{nat_le, Result, Ok, Err, IfOk}
 use Rattle.std.proofs.lemmas.Bool.{leb-true, leb-false}
 use Rattle.std.specs.List.{filter, AllByRecursion as Each}
@@ -34,11 +34,12 @@ use Rattle.answer_lines.specs.declared.answers.Answer.TheVariants as answers
 use Rattle.request_lines.specs.declared.requests.Request.{Request}
 use Rattle.request_lines.specs.declared.requests.Ask.{Ask}
 use Rattle.request_lines.specs.declared.requests.Ask.TheVariants as asks
-use Rattle.legal_output.specs.Lines.{Start, Given, Finish, drawn, IsOfMetric, IsReplyTo}
-use Rattle.legal_output.specs.Printed.{only_at}
+use Rattle.legal_output.specs.Lines.{Start, Given, drawn, IsOfMetric, IsReplyTo}
+use Rattle.legal_output.specs.Printed.{Tail, only_at, brings, sum_over}
 use Rattle.legal_output.specs.Legal.{told_of}
-use Rattle.legal_output.specs.Runs.{Plain, Serves}
+use Rattle.legal_output.specs.Runs.{Plain, Serves, Ends}
 use Rattle.plain_run.specs.Accounts.{alone}
+use Rattle.plain_run.proofs.Counted.{rows_in, tail_behind, tail_written}
 
 abbrev pub stamp : ℕ → Timestamp
 stamp n = record { 0 = n }
@@ -61,12 +62,12 @@ lt_next n = omega arith
 le_next : (a b : ℕ) → a ≤ b → a ≤ b + 1
 le_next a b low = omega arith
 
-pub served_write : (start : Start) (old : Plain) (now : ℕ) (write : Write) (what : Wrote) (log : List Entry)
-    → old.tick < old.clock → Each (λ e. e.ts.0 < old.clock) old.log → old.clock ≤ now
+pub served_write : (start : Start) (old : Plain) (now : ℕ) (write : Write) (what : Wrote) (log : List Entry) (tail : Tail)
+    → start.channels ≡ 1 → tail ≡ tail_behind start.seal_rows (brings write what) old.tail → old.tick < old.clock → Each (λ e. e.ts.0 < old.clock) old.log → old.clock ≤ now
     → log ≡ old.log ++ record { ts = stamp now; write = write } ∷ []
     → what ≡ told_of write (fin.contains_key (rows_of old.log) (key_of write)) → IsReplyTo write what
-    → Serves start old (alone (asks.Write write)) (answers.Wrote (record { ts = stamp now; what = what })) (record { clock = now + 1; log = log; tick = old.tick; mine = now })
-served_write start old now write what log reached logged later grown told kind =
+    → Serves start old (alone (asks.Write write)) (answers.Wrote (record { ts = stamp now; what = what })) (record { clock = now + 1; log = log; tick = old.tick; mine = now; tail = tail })
+served_write start old now write what log tail one behind reached logged later grown told kind =
     let entry : Entry = record { ts = stamp now; write = write } in
     let before : below log now ≡ old.log =
     ap (λ l. below l now) grown ∙ below-more old.log (entry ∷ []) now (le_self now, tt)
@@ -83,12 +84,12 @@ served_write start old now write what log reached logged later grown told kind =
       tick = le_self old.tick;
       told = λ channel. tt;
       reached = lt_later old.tick old.clock (now + 1) reached (le_next old.clock now later);
+      tail = λ channel there. behind ∙ tail_written start.seal_rows start.channels channel now old.tail write what one there;
       kind = kind;
       refusal = tt;
       replied = (told ∙ sym (ap (λ l. told_of write (fin.contains_key (rows_of l) (key_of write))) before), tt);
       content = tt;
       level = tt;
-      counted = tt;
     }
 
 fraction_metric : (union common : ℕ) → IsOfMetric metrics.Jaccard (fraction_of union common)
@@ -134,7 +135,7 @@ pub served_search : (start : Start) (old : Plain) (now guarantee ts clock : ℕ)
     → old.tick < old.clock → old.clock ≤ now → 0 < start.channels
     → guarantee ≡ guarantee_of level now old.mine → guarantee ≤ ts → old.tick ≤ ts → now < clock → ts < clock
     → hits ≡ scan old.log ts start.plan query
-    → Serves start old (alone (asks.Search query level wait)) (answers.Hits (stamp now) (stamp guarantee) (stamp ts) hits) (record { clock = clock; log = old.log; tick = ts; mine = old.mine })
+    → Serves start old (alone (asks.Search query level wait)) (answers.Hits (stamp now) (stamp guarantee) (stamp ts) hits) (record { clock = clock; log = old.log; tick = ts; mine = old.mine; tail = old.tail })
 served_search start old now guarantee ts clock query level wait hits reached later some is fresh known drawn within found = record {
   alone = refl;
   plain = tt;
@@ -147,12 +148,12 @@ served_search start old now guarantee ts clock query level wait hits reached lat
   tick = known;
   told = λ channel. (le_self ts, tt);
   reached = within;
+  tail = λ channel there. refl;
   kind = subst (Each (λ hit. IsOfMetric start.plan.metric hit.distance)) (sym found) (scan_metric old.log ts start.plan query);
   refusal = tt;
   replied = tt;
   content = found;
   level = record { guarantee = is; fresh = record { guaranteed = fresh; known = (0, some, known) } };
-  counted = tt;
 }
 
 -- the tick of the one channel
@@ -162,9 +163,9 @@ tick_low now (suc channel) = tt
 
 pub served_tick : (start : Start) (old : Plain) (now : ℕ) (ticks : List Timestamp)
     → old.tick < old.clock → old.clock ≤ now → start.channels ≡ 1 → ticks ≡ stamp now ∷ []
-    → Serves start old (alone asks.Tick) (answers.Ticked ticks) (record { clock = now + 1; log = old.log; tick = now; mine = old.mine })
+    → Serves start old (alone asks.Tick) (answers.Ticked ticks) (record { clock = now + 1; log = old.log; tick = now; mine = old.mine; tail = old.tail })
 served_tick start old now ticks reached later one are =
-    subst (λ t. Serves start old (alone asks.Tick) (answers.Ticked t) (record { clock = now + 1; log = old.log; tick = now; mine = old.mine })) (sym are) (record {
+    subst (λ t. Serves start old (alone asks.Tick) (answers.Ticked t) (record { clock = now + 1; log = old.log; tick = now; mine = old.mine; tail = old.tail })) (sym are) (record {
       alone = refl;
       plain = tt;
       later = le_next old.clock now later;
@@ -176,43 +177,45 @@ served_tick start old now ticks reached later one are =
       tick = le_later old.tick old.clock now reached later;
       told = λ channel. tick_low now channel;
       reached = lt_next now;
+      tail = λ channel there. refl;
       kind = sym one;
       refusal = tt;
       replied = tt;
       content = tt;
       level = tt;
-      counted = tt;
     })
 
+-- over one channel a sum is what it counts
+only_sum : (channels n : ℕ) → channels ≡ 1 → n ≡ sum_over channels (λ channel. n)
+only_sum channels n one = sym (zero-add n) ∙ ap (λ c. sum_over c (λ channel. n)) (sym one)
+
+le_none : (a b : ℕ) → a ≤ b → a ≤ b + 0
+le_none a b low = omega arith
+
+zero_least : (n : ℕ) → 0 ≤ n
+zero_least n = omega arith
+
 pub served_end : (start : Start) (old : Plain) (now count : ℕ)
-    → old.tick < old.clock → Each (λ e. e.ts.0 < old.clock) old.log → old.clock ≤ now → count ≡ fin.len (rows_of old.log)
-    → Serves start old Finish (answers.End (record { ts = stamp now; live = count })) (record { clock = now + 1; log = old.log; tick = now; mine = old.mine })
-served_end start old now count reached logged later counted = record {
-  alone = tt;
-  plain = tt;
-  later = le_next old.clock now later;
-  rising = (tt, tt);
-  drawn_above = (later, tt);
-  stamped_below = (lt_next now, tt);
-  log = sym (append-nil old.log);
-  mine = refl;
-  tick = le_later old.tick old.clock now reached later;
-  told = λ channel. tt;
-  reached = lt_next now;
-  kind = tt;
-  refusal = tt;
-  replied = tt;
-  content = tt;
-  level = tt;
-  counted = counted ∙ sym (ap (λ rows. fin.len rows) (live-all old.log now
-      (each_implied (λ e. e.ts.0 < old.clock) (λ e. e.ts.0 ≤ now) (λ e low. le_later e.ts.0 old.clock now low later) old.log logged)));
+    → start.channels ≡ 1 → Each (λ e. e.ts.0 < old.clock) old.log → old.clock ≤ now → count ≡ fin.len (rows_of old.log)
+    → fin.len (rows_of old.log) ≤ rows_in start.seal_rows old.tail
+    → Ends start old (record { ts = stamp now; live = count; tail = old.tail.rows; waiting = old.tail.segments; node_rows = 0; node_live = 0; failed = 0 })
+served_end start old now count one logged later counted held = record {
+  drawn_above = later;
+  counts = record {
+    live = counted ∙ sym (ap (λ rows. fin.len rows) (live-all old.log now
+        (each_implied (λ e. e.ts.0 < old.clock) (λ e. e.ts.0 ≤ now) (λ e low. le_later e.ts.0 old.clock now low later) old.log logged)));
+    tail = only_sum start.channels old.tail.rows one;
+    node_live = le_self 0;
+    merged = λ none. le_self 0;
+    least = zero_least count;
+    most = le_none count (rows_in start.seal_rows old.tail) (subst (λ n. n ≤ rows_in start.seal_rows old.tail) (sym counted) held);
+    waiting = subst (λ n. old.tail.segments ≤ n) (only_sum start.channels old.tail.segments one) (le_self old.tail.segments);
+    failed = le_self 0;
+  };
 }
 
 less_of : (a b : ℕ) → a - b ≤ a
 less_of a b = omega arith
-
-zero_least : (n : ℕ) → 0 ≤ n
-zero_least n = omega arith
 
 pub le_le : (a b c : ℕ) → a ≤ b → b ≤ c → a ≤ c
 le_le a b c low high = omega arith

@@ -6,6 +6,7 @@
 mod kept;
 mod nearest;
 mod runs;
+mod tails;
 #[cfg(test)]
 mod tests;
 

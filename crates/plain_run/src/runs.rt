@@ -1,20 +1,23 @@
 //! A run over requests.
 
-ghost use Rattle.std.specs.Prelude.{◌≡◌, ◌+◌, ◌^◌, ◌<◌, ◌≤◌, max, length, Bool, OnErr, IfOk};
+ghost use Rattle.std.specs.Prelude.{◌≡◌, ◌+◌, ◌*◌, ◌^◌, ◌<◌, ◌≤◌, max, length, Bool, OnErr, IfOk};
 ghost use Rattle.std.specs.List.{AllByRecursion};
+ghost use Rattle.std.specs.FinMap as fin;
 ghost use Rattle.std.proofs.Props.{props};
 ghost use Rattle.hybrid_time.specs.Times.{of_moment};
 ghost use Rattle.coarse_lists.specs.declared.collections.Collection.{Collection};
+ghost use Rattle.coarse_lists.specs.Collections.{IsInRange};
+ghost use Rattle.log_model.specs.Logs.{rows_of};
 ghost use Rattle.request_lines.specs.declared.requests.Ask.TheVariants as asks;
 ghost use Rattle.request_lines.specs.Requests.{Fits, FitsQuery, FitsWrite};
-ghost use Rattle.answer_lines.specs.declared.answers.Answer.TheVariants as answers;
-ghost use Rattle.legal_output.specs.Lines.{Start, Given, Finish, drawn, IsReplyTo};
+ghost use Rattle.legal_output.specs.Lines.{Given, drawn, IsReplyTo};
 ghost use Rattle.legal_output.specs.Legal.{told_of};
 ghost use Rattle.legal_output.specs.Outputs.{start_of};
-ghost use Rattle.legal_output.specs.Runs.{Serves, begun};
+ghost use Rattle.legal_output.specs.Runs.{Serves, Ends, begun};
 
 use crate::kept::Kept;
-use answer_lines::{Answer, EndReply, WriteReply, Wrote};
+use crate::tails::Tail;
+use answer_lines::{Answer, MeetReply, WriteReply, Wrote};
 use coarse_lists::Collection;
 use hybrid_time::{Level, Timestamp, guarantee};
 use log_model::{Entry, Plan, Query, Write};
@@ -23,31 +26,43 @@ use row_types::{List, Memory};
 use std::alloc::Global;
 
 /// A run over the requests of one caller. It keeps its log with the rows of the last snapshot, the next
-/// number, the last tick, and the timestamp of the caller's last write.
+/// number, the last tick, the timestamp of the caller's last write, and the counts of the tail. No node
+/// holds a segment: all that were made wait.
 #[derive(Debug, Drop)]
 pub struct PlainRun {
     kept: Kept,
     clock: u64,
     tick: u64,
     mine: u64,
+    seal_rows: u32,
+    tail: Tail,
     ghost logged: { AllByRecursion (λ entry. entry.ts.0 < clock) kept.log.items } by { Prim.hlevel props },
     ghost reached: { tick < clock },
     ghost written: { mine < clock },
+    ghost counted: { tail.rows + tail.segments < clock },
+    ghost unsealed: { tail.rows < seal_rows },
+    ghost held: { fin.len (rows_of kept.log.items) ≤ tail.rows + tail.segments * seal_rows },
 }
 
 impl PlainRun {
     ghost use Rattle.plain_run.specs.Accounts.{plain_of, IsRunOf};
 
-    /// A run that has served nothing; takes no memory.
-    pub fn new(alloc: Global) -> PlainRun
-        ensures begun { (collection : Collection) → plain_of result ≡ begun (start_of collection) 1 }
-        ensures ready { (collection : Collection) → collection.channels ≡ 1 → IsRunOf collection result }
+    /// A run over a collection, which has served nothing; takes no memory.
+    pub fn new(alloc: Global, collection: &Collection) -> PlainRun
+        requires { IsInRange collection.now }
+        ensures begun { plain_of result ≡ begun (start_of collection.now) 1 }
+        ensures ready { collection.now.channels ≡ 1 → IsRunOf collection.now result }
     {
         PlainRun {
             kept: Kept::new(alloc),
             clock: 1,
             tick: 0,
             mine: 0,
+            seal_rows: collection.seal_rows,
+            tail: Tail {
+                rows: 0,
+                segments: 0,
+            },
         }
     }
 
@@ -85,26 +100,30 @@ impl PlainRun {
         }
     }
 
-    /// Ends the run: counts the keys that are live behind all writes. Draws one number, at or above
-    /// the moment's first timestamp; takes no memory.
-    pub fn end(&mut self, moment: u64) -> EndReply
-        requires room { (plain_of self.old).clock + 3 < 2 ^ 64 }
-        ensures serves { (start : Start) → Serves start (plain_of self.old) Finish (answers.End result) (plain_of self.new) }
+    /// Ends the run: counts the keys that are live behind all writes, the rows of the tail, and the
+    /// segments, which all wait. Draws one number, at or above the moment's first timestamp; takes no
+    /// memory.
+    pub fn end(self, moment: u64) -> MeetReply
+        ensures ends { (collection : Collection) → IsRunOf collection self → Ends (start_of collection) (plain_of self) result }
         ensures moment { of_moment moment ≤ result.ts.0 }
+        ensures waiting { result.waiting ≡ (plain_of self).tail.segments }
+        ensures nodes { (result.node_rows ≡ 0) × (result.node_live ≡ 0) }
+        ensures failed { result.failed ≡ 0 }
     {
-        let last = self.lifted(moment);
-        let live = self.kept.live();
-        self.clock = last + 1;
-        self.tick = last;
-        EndReply {
-            ts: Timestamp(last),
-            live,
+        MeetReply {
+            ts: Timestamp(self.lifted(moment)),
+            live: self.kept.live(),
+            tail: self.tail.rows,
+            waiting: self.tail.segments,
+            node_rows: 0,
+            node_live: 0,
+            failed: 0,
         }
     }
 }
 
 impl PlainRun {
-    ghost use Rattle.plain_run.specs.Accounts.{plain_of, IsLogOf, IsRunOf, alone};
+    ghost use Rattle.plain_run.specs.Accounts.{plain_of, IsRunOf, alone};
 
     /// The next number, lifted to a moment.
     fn lifted(&self, moment: u64) -> u64
@@ -119,19 +138,20 @@ impl PlainRun {
     fn write(&mut self, now: u64, write: Write) -> Result<Answer, Memory>
         requires later { (plain_of self.old).clock ≤ now }
         requires room { now + 3 < 2 ^ 64 }
-        ensures serves { IfOk result (λ answer. (start : Start) →
-            Serves start (plain_of self.old) (alone (asks.Write write)) answer (plain_of self.new)) }
+        ensures serves { IfOk result (λ answer. (collection : Collection) → IsRunOf collection self.old →
+            Serves (start_of collection) (plain_of self.old) (alone (asks.Write write)) answer (plain_of self.new)) }
         ensures moments { IfOk result (λ answer. AllByRecursion (λ n. now ≤ n) (drawn answer)) }
-        ensures fits { (collection : Collection) → IsLogOf collection (plain_of self.old).log →
-            FitsWrite collection write → IsLogOf collection (plain_of self.new).log }
+        ensures run { (collection : Collection) → IsRunOf collection self.old → FitsWrite collection write → IsRunOf collection self.new }
         ensures numbers { (plain_of self.new).clock ≤ now + 3 }
         ensures err { OnErr result (plain_of self.new ≡ plain_of self.old) }
     {
         let what = told(&write, self.kept.holds(write.key()));
         let ts = Timestamp(now);
+        let tail = self.tail.behind(&write, what, self.seal_rows);
         self.kept.push(Entry { ts, write })?;
         self.clock = now + 1;
         self.mine = now;
+        self.tail = tail;
         Ok(Answer::Wrote(WriteReply { ts, what }))
     }
 
@@ -151,7 +171,7 @@ impl PlainRun {
         ensures serves { IfOk result (λ answer. (wait : Bool) →
             Serves (start_of collection.now) (plain_of self.old) (alone (asks.Search query.now level wait)) answer (plain_of self.new)) }
         ensures moments { IfOk result (λ answer. AllByRecursion (λ n. now ≤ n) (drawn answer)) }
-        ensures log { (plain_of self.new).log ≡ (plain_of self.old).log }
+        ensures run { IsRunOf collection.now self.new }
         ensures numbers { (plain_of self.new).clock ≤ now + 3 }
         ensures err { OnErr result (plain_of self.new ≡ plain_of self.old) }
     {
@@ -178,12 +198,12 @@ impl PlainRun {
         collection: &Collection,
         now: u64,
     ) -> Result<Answer, Memory>
-        requires channels { collection.now.channels ≡ 1 }
+        requires run { IsRunOf collection.now self.old }
         requires later { (plain_of self.old).clock ≤ now }
         requires room { now + 3 < 2 ^ 64 }
         ensures serves { IfOk result (λ answer. Serves (start_of collection.now) (plain_of self.old) (alone asks.Tick) answer (plain_of self.new)) }
         ensures moments { IfOk result (λ answer. AllByRecursion (λ n. now ≤ n) (drawn answer)) }
-        ensures log { (plain_of self.new).log ≡ (plain_of self.old).log }
+        ensures run { IsRunOf collection.now self.new }
         ensures numbers { (plain_of self.new).clock ≤ now + 3 }
         ensures err { OnErr result (plain_of self.new ≡ plain_of self.old) }
     {

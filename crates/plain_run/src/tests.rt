@@ -1,37 +1,46 @@
 //! Runs of a few requests, which are read from their lines.
 
 ghost use Rattle.std.specs.Prelude.{◌≡◌, ◌≤◌, length, IfOk};
-ghost use Rattle.row_types.specs.Bits.{IsDimension};
+ghost use Rattle.coarse_lists.specs.Collections.{IsInRange};
 
 use crate::PlainRun;
-use answer_lines::line;
+use answer_lines::{Answer, line};
 use coarse_lists::Collection;
 use request_lines::{read_header, read_line};
 use std::alloc::Global;
 use std::process::Abort;
 use std::test::Fail;
 
-fn collection(rt: &impl Abort, alloc: Global, header: &str) -> Result<Collection, Fail>
-    ensures dim { IfOk result (λ collection. IsDimension collection.dim) }
+/// The collection of a header, whose tail becomes a segment at `seal_rows` rows.
+fn collection(
+    rt: &impl Abort,
+    alloc: Global,
+    header: &str,
+    seal_rows: u32,
+) -> Result<Collection, Fail>
+    ensures in_range { IfOk result IsInRange }
     ensures channels { IfOk result (λ collection. collection.channels ≡ 1) }
 {
-    let collection = read_header(alloc, header.as_bytes())?;
+    let mut collection = read_header(alloc, header.as_bytes())?;
     assert!(rt; collection.channels == 1);
+    assert!(rt; 2 <= seal_rows && seal_rows <= 65_536);
+    collection.seal_rows = seal_rows;
     Ok(collection)
 }
 
-/// Serves each line and compares the text of its answer, and at the end the number of live keys.
+/// Serves each line, ends the run, and compares the text of each answer.
 fn check(
     rt: &impl Abort,
     alloc: Global,
     header: &str,
+    seal_rows: u32,
     session: &[(&str, &str)],
-    live: u64,
+    end: &str,
 ) -> Result<(), Fail>
     requires { length session.now ≤ 1000 }
 {
-    let collection = collection(rt, alloc, header)?;
-    let mut run = PlainRun::new(alloc);
+    let collection = collection(rt, alloc, header, seal_rows)?;
+    let mut run = PlainRun::new(alloc, &collection);
     'lines: for (asked, want) in session {
         let request = read_line(alloc, asked.as_bytes(), &collection)?;
         assert!(rt; request.caller == 0);
@@ -40,7 +49,9 @@ fn check(
         text.pop();
         assert_eq!(rt; text.as_slice(), want.as_bytes());
     }
-    assert_eq!(rt; run.end(0).live, live);
+    let mut text = line(alloc, 1, &Answer::End(run.end(0)))?;
+    text.pop();
+    assert_eq!(rt; text.as_slice(), end.as_bytes());
     Ok(())
 }
 
@@ -50,6 +61,7 @@ fn an_insert_of_a_live_key_changes_nothing(rt: HostRuntime) -> Result<(), Fail> 
         &rt,
         rt.alloc(),
         r#"{"op":"create","dim":8}"#,
+        1_024,
         &[
             (
                 r#"{"op":"insert","key":7,"vector":"0f"}"#,
@@ -64,7 +76,7 @@ fn an_insert_of_a_live_key_changes_nothing(rt: HostRuntime) -> Result<(), Fail> 
                 r#"{"answer":"hits","guarantee":3,"hits":[[0,7]],"line":1,"now":3,"ts":4}"#,
             ),
         ],
-        1,
+        r#"{"answer":"end","failed":0,"live":1,"node_live":0,"node_rows":0,"tail":1,"ts":5,"waiting":0}"#,
     )
 }
 
@@ -74,6 +86,7 @@ fn a_search_of_the_last_tick_leaves_later_writes_out(rt: HostRuntime) -> Result<
         &rt,
         rt.alloc(),
         r#"{"op":"create","dim":8}"#,
+        1_024,
         &[
             (
                 r#"{"op":"upsert","key":7,"vector":"0f"}"#,
@@ -100,7 +113,7 @@ fn a_search_of_the_last_tick_leaves_later_writes_out(rt: HostRuntime) -> Result<
                 r#"{"answer":"hits","guarantee":6,"hits":[[0,5],[0,7]],"line":1,"now":7,"ts":8}"#,
             ),
         ],
-        3,
+        r#"{"answer":"end","failed":0,"live":3,"node_live":0,"node_rows":0,"tail":3,"ts":9,"waiting":0}"#,
     )
 }
 
@@ -112,6 +125,7 @@ fn a_snapshot_stays_while_its_key_is_written_and_moves_at_a_tick(
         &rt,
         rt.alloc(),
         r#"{"op":"create","dim":8}"#,
+        1_024,
         &[
             (
                 r#"{"op":"upsert","key":7,"vector":"0f"}"#,
@@ -174,7 +188,7 @@ fn a_snapshot_stays_while_its_key_is_written_and_moves_at_a_tick(
                 r#"{"answer":"hits","guarantee":0,"hits":[[4,7]],"line":1,"now":15,"ts":12}"#,
             ),
         ],
-        0,
+        r#"{"answer":"end","failed":0,"live":0,"node_live":0,"node_rows":0,"tail":3,"ts":16,"waiting":0}"#,
     )
 }
 
@@ -184,6 +198,7 @@ fn equal_fractions_stand_by_their_keys(rt: HostRuntime) -> Result<(), Fail> {
         &rt,
         rt.alloc(),
         r#"{"op":"create","dim":8,"metric":"JACCARD"}"#,
+        1_024,
         &[
             (
                 r#"{"op":"insert","key":7,"vector":"80"}"#,
@@ -198,7 +213,7 @@ fn equal_fractions_stand_by_their_keys(rt: HostRuntime) -> Result<(), Fail> {
                 r#"{"answer":"hits","guarantee":3,"hits":[[2,4,5],[1,2,7]],"line":1,"now":3,"ts":4}"#,
             ),
         ],
-        2,
+        r#"{"answer":"end","failed":0,"live":2,"node_live":0,"node_rows":0,"tail":2,"ts":5,"waiting":0}"#,
     )
 }
 
@@ -208,6 +223,7 @@ fn the_nearest_are_those_of_the_rows_that_pass(rt: HostRuntime) -> Result<(), Fa
         &rt,
         rt.alloc(),
         r#"{"op":"create","dim":8,"metric":"JACCARD","fields":[{"name":"lang","type":"VARCHAR"},{"name":"year","type":"INT64"}]}"#,
+        1_024,
         &[
             (
                 r#"{"op":"insert","key":1,"vector":"f0","fields":{"lang":"en","year":2021}}"#,
@@ -246,6 +262,39 @@ fn the_nearest_are_those_of_the_rows_that_pass(rt: HostRuntime) -> Result<(), Fa
                 r#"{"answer":"hits","guarantee":0,"hits":[[0,4,1]],"line":1,"now":10,"ts":6}"#,
             ),
         ],
-        4,
+        r#"{"answer":"end","failed":0,"live":4,"node_live":0,"node_rows":0,"tail":4,"ts":11,"waiting":0}"#,
+    )
+}
+
+#[test]
+fn a_full_tail_becomes_a_segment_that_waits(rt: HostRuntime) -> Result<(), Fail> {
+    check(
+        &rt,
+        rt.alloc(),
+        r#"{"op":"create","dim":8}"#,
+        2,
+        &[
+            (
+                r#"{"op":"insert","key":1,"vector":"0f"}"#,
+                r#"{"answer":"ok","line":1,"ts":1}"#,
+            ),
+            (
+                r#"{"op":"insert","key":1,"vector":"ff"}"#,
+                r#"{"answer":"exists","line":1,"ts":2}"#,
+            ),
+            (
+                r#"{"op":"upsert","key":1,"vector":"ff"}"#,
+                r#"{"answer":"ok","line":1,"ts":3,"was":true}"#,
+            ),
+            (
+                r#"{"op":"delete","key":1}"#,
+                r#"{"answer":"ok","line":1,"ts":4,"was":true}"#,
+            ),
+            (
+                r#"{"op":"insert","key":2,"vector":"0f"}"#,
+                r#"{"answer":"ok","line":1,"ts":5}"#,
+            ),
+        ],
+        r#"{"answer":"end","failed":0,"live":1,"node_live":0,"node_rows":0,"tail":1,"ts":6,"waiting":1}"#,
     )
 }

@@ -1,4 +1,4 @@
-use Rattle.legal_output.proofs.Broken.{legal, form, refusals, numbers, writes, content, row, levels, guaranteed, known, order, after_meet, pending, pending_below, sealed, tail, waiting, meets}
+use Rattle.legal_output.proofs.Broken.{legal, form, refusals, numbers, writes, content, row, levels, guaranteed, known, order, after_meet, pending, pending_below, sealed, tail, waiting, meets, end_tail, end_waiting, end_merged}
 use Rattle.legal_output.proofs.examples.clauses_are_needed.Goals as goal
 
 pub returns : goal.returns
@@ -21,4 +21,7 @@ returns c = record {
   tail = tail;
   waiting = waiting;
   meets = meets;
+  end_tail = end_tail;
+  end_waiting = end_waiting;
+  end_merged = end_merged;
 }

@@ -4,7 +4,7 @@ use Rattle.std.specs.FinMap as fin
 use Rattle.hybrid_time.specs.declared.times.Timestamp.{Timestamp}
 use Rattle.row_types.specs.Hits.{least}
 use Rattle.row_types.proofs.Rising.{AllByRecursion-take}
-use Rattle.log_model.specs.Logs.{IsLog, IsAbove, rows_of, live}
+use Rattle.log_model.specs.Logs.{IsAbove, rows_of, live}
 use Rattle.log_model.specs.Scans.{FitsDimension, HasDimension, passes_filter, hits_found, scan}
 use Rattle.log_model.proofs.Dimensions.{rows-dimension}
 use Rattle.log_model.specs.declared.logs.Entry.{Entry}

@@ -4,7 +4,7 @@ use Rattle.legal_output.specs.Outputs.{start_of}
 use Rattle.legal_output.specs.Runs.{Serves}
 use Rattle.answer_lines.specs.declared.answers.Answer.TheVariants as answers
 use Rattle.request_lines.specs.declared.requests.Ask.TheVariants as asks
-use Rattle.plain_run.specs.Accounts.{plain_of, alone}
+use Rattle.plain_run.specs.Accounts.{plain_of, tail_of, alone}
 use Rattle.plain_run.proofs.Fits.{log-dimension}
 use Rattle.plain_run.proofs.Served.{IsSnapshot, snapshot_facts, guarantee_most, served_search, stamp}
 use Rattle.plain_run.proofs.runs.PlainRun.search.Goals as goal
@@ -24,7 +24,7 @@ returns-clause-serves c = λ wait.
     snapshot_facts c.args.self.now.tick c.guarantee-least.result.0 c.args.now c.snapshot-ts.result.0 c.snapshot-ts.result.1 before least c.snapshot-ts.ensures.last c.snapshot-ts.ensures.drawn in
     subst (λ log. Serves (start_of c.args.collection.now) (plain_of c.args.self.now) (alone (asks.Search c.args.query.now c.args.level wait))
     (answers.Hits (stamp c.args.now) c.guarantee-least.result (stamp c.snapshot-ts.result.0) c.of.result)
-    (record { clock = c.snapshot-ts.result.1; log = log; tick = c.snapshot-ts.result.0; mine = c.args.self.now.mine })) (sym c.scan.ensures.log)
+    (record { clock = c.snapshot-ts.result.1; log = log; tick = c.snapshot-ts.result.0; mine = c.args.self.now.mine; tail = tail_of c.args.self.now.tail })) (sym c.scan.ensures.log)
     (served_search (start_of c.args.collection.now) (plain_of c.args.self.now) c.args.now c.guarantee-least.result.0 c.snapshot-ts.result.0 c.snapshot-ts.result.1
     c.args.query.now c.args.level wait c.of.result c.args.self.now.reached c.requires.later some c.guarantee-least.ensures
     taken.guaranteed taken.known taken.drawn taken.within (c.of.ensures ∙ c.in_ok-hits.ensures.hits))
