@@ -1,0 +1,4 @@
+pub mod IndexNotes
+pub mod LayoutNotes
+pub mod KeptLaws
+pub mod ListLaws
