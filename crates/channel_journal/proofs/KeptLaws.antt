@@ -1,5 +1,6 @@
 -- Each note keeps what a journal keeps: one lemma a kind.
-use Rattle.std.proofs.Common.{◌≡◌, ◌≢◌, ℕ, ℤ, ◌+◌, ◌<◌, ◌≤◌, Bool, true, false, cond, List, [], ◌∷◌, ◌++◌, length, Option, Some, None, refl, sym, ap, ap₂, subst, ◌∙◌, arith, eqb-true, eqb-false}
+use Rattle.std.proofs.Common.{◌≡◌, ◌≢◌, ℕ, ℤ, ◌+◌, ◌-◌, ◌^◌, ◌<◌, ◌≤◌, Bool, true, false, cond, List, [], ◌∷◌, ◌++◌, length, Option, Some, None, refl, sym, ap, ap₂, subst, ◌∙◌, arith}
+use Rattle.std.proofs.lemmas.Bool.{eqb-false}
 use Rattle.std.specs.Prelude.{nat_eq, is_some}
 use Rattle.std.specs.Ordering.{int_cmp}
 use Rattle.std.specs.FinMap as fin
@@ -25,7 +26,7 @@ use Rattle.journal_model.proofs.LayoutLaws.{layout-snoc}
 use Rattle.journal_model.proofs.RunLaws.{append_sound, raise_sound}
 use Rattle.journal_model.proofs.PlaceLaws.{start_sound}
 use Rattle.channel_journal.specs.Notes.{is_upkeep}
-use Rattle.channel_journal.specs.Kept.{IsIndex, IsChannel, KeepsJournal, admits, live_after_put, live_after_remove, tail_after_put, taken_after_put, taken_after_seal}
+use Rattle.channel_journal.specs.Kept.{IsIndex, IsChannel, KeepsJournal, admits, live_after_put, live_after_remove, tail_after_put, taken_after_put, taken_after_seal, numbers_of, HasRoom}
 use Rattle.channel_journal.proofs.IndexNotes.{effective_admitted, effective_refused, refused_insert, index_put, index_remove, index_same, index_refused, live_put, live_refused, live_remove}
 use Rattle.channel_journal.proofs.LayoutNotes.{tail-row, taken-row, tail-seal, taken-seal}
 
@@ -39,10 +40,6 @@ at_most_one_else : (b : Bool) (n : ℕ) → cond b n (n + 1) ≤ n + 1
 at_most_one_else true n = omega arith
 at_most_one_else false n = omega arith
 
-at_most_less : (b : Bool) (n : ℕ) → live_after_remove (cond b (Some 0) None) n ≤ n + 1
-at_most_less true n = omega arith
-at_most_less false n = omega arith
-
 less_live : (found : Option ℕ) (n : ℕ) → live_after_remove found n ≤ n + 1
 less_live None n = omega arith
 less_live (Some p) n = omega arith
@@ -53,14 +50,16 @@ short_tail seal_rows tail short = elim (nat_eq (tail + 1) seal_rows) as (λ b. n
   | false ↦ λ e. let other : tail + 1 ≢ seal_rows = eqb-false (tail + 1) seal_rows e in omega arith
 ] refl
 
--- a note that moves or merges segments takes a number exactly where it is a Number note
-abbrev pub numbers_after : Kind → ℕ → ℕ
-numbers_after (Number segment floor) taken = taken + 1
-numbers_after _ taken = taken
+-- room for one note less
+pub less_room : (spare list keys list_left keys_left : ℕ) → HasRoom spare list keys → list ≡ list_left + 1 → keys ≤ keys_left + 1 → HasRoom (spare - 1) list_left keys_left
+less_room spare list keys list_left keys_left room l k = record {
+  for_notes = let was : spare ≤ list = room.for_notes in omega arith;
+  for_keys = let was : spare ≤ keys = room.for_keys in omega arith;
+}
 
 -- ---- one lemma a kind
 
-module _ (channel : Channel) (floor tick taken tail live : ℕ) (notes : List Note) (index : fin.FinMap int_cmp ℕ) (note : Note) where
+module _ (channel : Channel) (floor tick taken tail live : ℕ) (notes : List Note) (index : fin.FinMap int_cmp ℕ) (note : Note) (few : length notes < 2 ^ 56) where
   -- what any note keeps, with the counters and the index after it
   pub kept_with : KeepsJournal channel floor tick taken tail live notes index → is_step channel (record { notes = notes; floor = floor }) note ≡ true
       → (now numbers rows alive : ℕ) (map : fin.FinMap int_cmp ℕ)
@@ -70,13 +69,14 @@ module _ (channel : Channel) (floor tick taken tail live : ℕ) (notes : List No
       → alive ≡ fin.len (after (live_in notes) (entries_of note.kind))
       → numbers ≤ taken + 1 → alive ≤ live + 1 → rows < channel.seal_rows → IsIndex map (notes ++ note ∷ [])
       → KeepsJournal channel floor now numbers rows alive (notes ++ note ∷ []) map
-  kept_with k ok now numbers rows alive map t n r a few fewer short i = record {
+  kept_with k ok now numbers rows alive map t n r a one fewer short i = record {
     is_channel = k.is_channel;
     sound = append_sound channel (record { notes = notes; floor = floor }) note k.sound ok;
     tick_is = t ∙ ap (λ u. tick_after u note.kind) k.tick_is ∙ sym (tick_of-snoc notes note);
     taken_is = n ∙ ap (λ (l : Layout). l.taken) (sym (layout-snoc channel notes note));
     tail_is = r ∙ ap (λ (l : Layout). length l.tail) (sym (layout-snoc channel notes note));
     live_is = a ∙ ap (λ (rows : Rows). fin.len rows) (sym (live_in-snoc notes note));
+    few = let bound : length notes < 2 ^ 56 = few in omega (arith, length_push notes note);
     few_taken = let was : taken ≤ length notes = k.few_taken in omega (arith, length_push notes note);
     few_live = let was : live ≤ length notes = k.few_live in omega (arith, length_push notes note);
     short = short;
@@ -90,8 +90,8 @@ module _ (channel : Channel) (floor tick taken tail live : ℕ) (notes : List No
       → fin.len (live_in notes) ≡ fin.len (after (live_in notes) (entries_of note.kind))
       → ((q : ℤ) → reindexed q notes (index_of notes q) note.kind ≡ index_of notes q)
       → KeepsJournal channel floor now numbers tail live (notes ++ note ∷ []) index
-  kept_plain k ok now numbers t n few same alive f =
-      kept_with k ok now numbers tail live index t n (k.tail_is ∙ sym same) (k.live_is ∙ alive) few (omega arith) k.short (index_same index notes note f k.indexed)
+  kept_plain k ok now numbers t n one same alive f =
+      kept_with k ok now numbers tail live index t n (k.tail_is ∙ sym same) (k.live_is ∙ alive) one (omega arith) k.short (index_same index notes note f k.indexed)
 
   pub kept_put : (ts : Timestamp) (how : PutKind) (row : Row) → note.kind ≡ Put ts how row → admits how (fin.get index row.key.0) ≡ true
       → KeepsJournal channel floor tick taken tail live notes index → is_step channel (record { notes = notes; floor = floor }) note ≡ true
@@ -159,12 +159,15 @@ module _ (channel : Channel) (floor tick taken tail live : ℕ) (notes : List No
       (index_same index notes note (λ q. ap (reindexed q notes (index_of notes q)) e) k.indexed)
 
   pub kept_upkeep : is_upkeep note.kind ≡ true → KeepsJournal channel floor tick taken tail live notes index → is_step channel (record { notes = notes; floor = floor }) note ≡ true
-      → KeepsJournal channel floor tick (numbers_after note.kind taken) tail live (notes ++ note ∷ []) index
+      → KeepsJournal channel floor tick (taken + numbers_of note.kind) tail live (notes ++ note ∷ []) index
   kept_upkeep up k ok = go note.kind refl up
     where
-      bound : (kind : Kind) → numbers_after kind taken ≤ taken + 1
+      bound : (kind : Kind) → taken + numbers_of kind ≤ taken + 1
       bound (Number segment begun) = omega arith
       bound _ = omega arith
+
+      no_number : (taken + 0) ≡ (layout_of channel notes).taken
+      no_number = let is : taken ≡ (layout_of channel notes).taken = k.taken_is in omega arith
 
       merge_taken : (sources : List ℕ) (segment : Option ℕ) (node : ℕ) → (layout_of channel notes).taken ≡ (layout_after channel notes note.by (layout_of channel notes) (Merge sources segment node)).taken
       merge_taken sources None node = refl
@@ -174,43 +177,45 @@ module _ (channel : Channel) (floor tick taken tail live : ℕ) (notes : List No
       merge_tail sources None node = refl
       merge_tail sources (Some number) node = refl
 
-      by_kind : (kind : Kind) → note.kind ≡ kind → tick ≡ tick_after tick kind → numbers_after kind taken ≡ (layout_after channel notes note.by (layout_of channel notes) kind).taken
+      by_kind : (kind : Kind) → note.kind ≡ kind → tick ≡ tick_after tick kind → taken + numbers_of kind ≡ (layout_after channel notes note.by (layout_of channel notes) kind).taken
           → (layout_after channel notes note.by (layout_of channel notes) kind).tail ≡ (layout_of channel notes).tail
           → fin.len (live_in notes) ≡ fin.len (after (live_in notes) (entries_of kind)) → ((q : ℤ) → reindexed q notes (index_of notes q) kind ≡ index_of notes q)
-          → KeepsJournal channel floor tick (numbers_after note.kind taken) tail live (notes ++ note ∷ []) index
+          → KeepsJournal channel floor tick (taken + numbers_of note.kind) tail live (notes ++ note ∷ []) index
       by_kind kind e t n r a f =
-          kept_plain k ok tick (numbers_after note.kind taken) (t ∙ ap (tick_after tick) (sym e))
-          (ap (λ (kind : Kind). numbers_after kind taken) e ∙ n ∙ ap (λ (kind : Kind). (layout_after channel notes note.by (layout_of channel notes) kind).taken) (sym e))
+          kept_plain k ok tick (taken + numbers_of note.kind) (t ∙ ap (tick_after tick) (sym e))
+          (ap (λ (kind : Kind). taken + numbers_of kind) e ∙ n ∙ ap (λ (kind : Kind). (layout_after channel notes note.by (layout_of channel notes) kind).taken) (sym e))
           (bound note.kind)
           (ap (λ (kind : Kind). length (layout_after channel notes note.by (layout_of channel notes) kind).tail) e ∙ ap (λ xs. length xs) r)
           (a ∙ ap (λ (kind : Kind). fin.len (after (live_in notes) (entries_of kind))) (sym e))
           (λ q. ap (reindexed q notes (index_of notes q)) e ∙ f q)
 
-      go : (kind : Kind) → note.kind ≡ kind → is_upkeep kind ≡ true → KeepsJournal channel floor tick (numbers_after note.kind taken) tail live (notes ++ note ∷ []) index
+      go : (kind : Kind) → note.kind ≡ kind → is_upkeep kind ≡ true → KeepsJournal channel floor tick (taken + numbers_of note.kind) tail live (notes ++ note ∷ []) index
       go (Number segment begun) e h = by_kind (Number segment begun) e refl (ap (λ n. n + 1) k.taken_is) refl refl (λ q. refl)
-      go (Load segment node) e h = by_kind (Load segment node) e refl k.taken_is refl refl (λ q. refl)
-      go (Release segment node) e h = by_kind (Release segment node) e refl k.taken_is refl refl (λ q. refl)
-      go (Lists segment) e h = by_kind (Lists segment) e refl k.taken_is refl refl (λ q. refl)
-      go (Merge sources segment node) e h = by_kind (Merge sources segment node) e refl (k.taken_is ∙ merge_taken sources segment node) (merge_tail sources segment node) refl (λ q. refl)
+      go (Load segment node) e h = by_kind (Load segment node) e refl no_number refl refl (λ q. refl)
+      go (Release segment node) e h = by_kind (Release segment node) e refl no_number refl refl (λ q. refl)
+      go (Lists segment) e h = by_kind (Lists segment) e refl no_number refl refl (λ q. refl)
+      go (Merge sources segment node) e h = by_kind (Merge sources segment node) e refl (no_number ∙ merge_taken sources segment node) (merge_tail sources segment node) refl (λ q. refl)
       go (Put ts how row) e h = cc
       go (Remove ts key) e h = cc
       go (Tick ts) e h = cc
       go (Seal ts) e h = cc
       go (Look guarantee) e h = cc
 
-  pub kept_floor : (high : ℕ) → KeepsJournal channel floor tick taken tail live notes index → floor ≤ high → high ≤ tick_of notes → KeepsJournal channel high tick taken tail live notes index
-  kept_floor high k low most = record {
-    is_channel = k.is_channel;
-    sound = raise_sound channel (record { notes = notes; floor = floor }) high k.sound low most;
-    tick_is = k.tick_is;
-    taken_is = k.taken_is;
-    tail_is = k.tail_is;
-    live_is = k.live_is;
-    few_taken = k.few_taken;
-    few_live = k.few_live;
-    short = k.short;
-    indexed = k.indexed;
-  }
+pub kept_floor : (channel : Channel) (floor tick taken tail live : ℕ) (notes : List Note) (index : fin.FinMap int_cmp ℕ) (high : ℕ) → KeepsJournal channel floor tick taken tail live notes index
+    → floor ≤ high → high ≤ tick_of notes → KeepsJournal channel high tick taken tail live notes index
+kept_floor channel floor tick taken tail live notes index high k low most = record {
+  is_channel = k.is_channel;
+  sound = raise_sound channel (record { notes = notes; floor = floor }) high k.sound low most;
+  tick_is = k.tick_is;
+  taken_is = k.taken_is;
+  tail_is = k.tail_is;
+  live_is = k.live_is;
+  few = k.few;
+  few_taken = k.few_taken;
+  few_live = k.few_live;
+  short = k.short;
+  indexed = k.indexed;
+}
 
 -- the same, at values that are equal
 pub kept_as : (channel : Channel) (floor tick taken tail live : ℕ) (notes : List Note) (index : fin.FinMap int_cmp ℕ) (numbers rows alive : ℕ) (more : List Note) (map : fin.FinMap int_cmp ℕ)
@@ -233,6 +238,7 @@ start channel is = record {
   taken_is = refl;
   tail_is = refl;
   live_is = sym (ap (λ (rows : Rows). fin.len rows) (rows_of-after []) ∙ fin.len-empty int_cmp Row);
+  few = omega arith;
   few_taken = omega arith;
   few_live = omega arith;
   short = let least : 1 ≤ channel.seal_rows = is.least in omega arith;

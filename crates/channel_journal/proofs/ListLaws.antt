@@ -5,8 +5,34 @@ use Rattle.std.specs.List.{AllByRecursion}
 use Rattle.std.proofs.lemmas.List.{length-append}
 use Rattle.journal_model.specs.declared.notes.Note.{Note}
 use Rattle.journal_model.specs.Lists.{joined}
-use Rattle.growing_segment.proofs.TailLaws.{slice_get_left, slice_get_right}
 use Rattle.channel_journal.specs.Kept.{IsWhole, notes_in}
+
+-- ---- any lists
+
+pub all_append : {X : Type 0} (P : X → Type 0) (xs ys : List X) → AllByRecursion P xs → AllByRecursion P ys → AllByRecursion P (xs ++ ys)
+all_append P [] ys a b = b
+all_append P (x ∷ xs) ys a b = (a.0, all_append P xs ys a.1 b)
+
+pub all_back : {X : Type 0} (P : X → Type 0) (xs ys : List X) → AllByRecursion P (xs ++ ys) → AllByRecursion P ys
+all_back P [] ys a = a
+all_back P (x ∷ xs) ys a = all_back P xs ys a.1
+
+pub all_at : {X : Type 0} (P : X → Type 0) (xs : List X) (k : ℕ) (d : X) → AllByRecursion P xs → k < length xs → P (get_or xs k d)
+all_at P [] k d a h = absurd (omega arith)
+all_at P (x ∷ xs) zero d a h = a.0
+all_at P (x ∷ xs) (suc k) d a h = all_at P xs k d a.1 (omega arith)
+
+pub slice_get_left : {X : Type 0} (xs ys : List X) (i : ℕ) → i < length xs → slice_get (xs ++ ys) i ≡ slice_get xs i
+slice_get_left [] ys i h = absurd (omega arith)
+slice_get_left (x ∷ xs) ys zero h = refl
+slice_get_left (x ∷ xs) ys (suc i) h = slice_get_left xs ys i (omega arith)
+
+pub slice_get_right : {X : Type 0} (xs ys : List X) (n i : ℕ) → n ≡ length xs → slice_get (xs ++ ys) (n + i) ≡ slice_get ys i
+slice_get_right [] ys n i h = let e : n + i ≡ i = omega arith in ap (slice_get ys) e
+slice_get_right (x ∷ xs) ys zero i h = absurd (omega arith)
+slice_get_right (x ∷ xs) ys (suc n) i h = let e : suc n + i ≡ suc (n + i) = omega arith in rw e (slice_get_right xs ys n i (omega arith))
+
+-- ---- chunks
 
 pub length-joined : (chunks : List (List Note)) → AllByRecursion IsWhole chunks → length (joined chunks) ≡ 256 * length chunks
 length-joined [] w = refl

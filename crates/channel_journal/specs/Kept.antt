@@ -6,6 +6,8 @@ use Rattle.std.specs.FinMap as fin
 use Rattle.std.specs.Ordering.{int_cmp}
 use Rattle.journal_model.specs.declared.notes.PutKind.{PutKind}
 use Rattle.journal_model.specs.declared.notes.PutKind.TheVariants.{Insert, Upsert}
+use Rattle.journal_model.specs.declared.notes.Kind.{Kind}
+use Rattle.journal_model.specs.declared.notes.Kind.TheVariants.{Number}
 use Rattle.journal_model.specs.declared.notes.Note.{Note}
 use Rattle.journal_model.specs.Lists.{joined}
 use Rattle.journal_model.specs.Notes.{live_in, tick_of}
@@ -68,6 +70,11 @@ taken_after_seal tail taken = if nat_eq tail 0 then taken else taken + 1
 abbrev pub number_after_seal : Channel → ℕ → ℕ → Option ℕ
 number_after_seal channel tail taken = if nat_eq tail 0 then None else Some (number_at channel taken)
 
+-- how many numbers a note takes that moves or merges segments
+abbrev pub numbers_of : Kind → ℕ
+numbers_of (Number segment floor) = 1
+numbers_of _ = 0
+
 -- ---- a journal
 
 -- the index has the position of the live row of each key
@@ -92,6 +99,7 @@ pub record KeepsJournal (channel : Channel) (floor tick taken tail live : ℕ) (
   pub taken_is : taken ≡ (layout_of channel notes).taken
   pub tail_is : tail ≡ length (layout_of channel notes).tail
   pub live_is : live ≡ fin.len (live_in notes)
+  pub few : length notes ≤ 2 ^ 56
   pub few_taken : taken ≤ length notes
   pub few_live : live ≤ length notes
   pub short : tail < channel.seal_rows

@@ -3,10 +3,10 @@
 ghost use Rattle.std.specs.Prelude.{◌≡◌, ◌+◌, ◌^◌, ◌<◌, ◌≤◌, IsTrue, is_some};
 ghost use Rattle.journal_model.specs.Layouts.{number_at};
 ghost use Rattle.channel_journal.specs.Outcomes.{segment_number, segment_rows};
-ghost use Rattle.channel_journal.specs.Kept.{admits, live_after_put, live_after_remove, tail_after_put, taken_after_put, number_after_put, taken_after_seal, number_after_seal};
+ghost use Rattle.channel_journal.specs.Kept.{admits, live_after_put, live_after_remove, tail_after_put, taken_after_put, number_after_put, taken_after_seal, number_after_seal, numbers_of};
 
 use crate::outcomes::SealOutcome;
-use journal_model::PutKind;
+use journal_model::{Kind, PutKind};
 
 /// Whether a put adds its row, by the position of its key's live row.
 pub fn is_admitted(how: PutKind, found: Option<u64>) -> bool
@@ -37,10 +37,10 @@ pub fn count_remove(found: Option<u64>, live: u64) -> u64
     }
 }
 
-// The number that is taken next.
-fn next_number(channel: u32, taken: u64) -> u64
+/// The number that is taken next.
+pub fn next_number(channel: u32, taken: u64) -> u64
     requires channel { channel < 16 }
-    requires taken { taken < 2 ^ 56 }
+    requires taken { taken ≤ 2 ^ 56 }
     ensures { result ≡ number_at (record { number = channel; seal_rows = 0 }) taken }
 {
     taken * 16 + u64::from(channel)
@@ -83,4 +83,15 @@ pub fn count_seal(channel: u32, tail: &mut u32, taken: &mut u64) -> SealOutcome
     let number = next_number(channel, *taken);
     *taken += 1;
     SealOutcome::Segment { number, rows }
+}
+
+/// How many numbers a note takes that moves or merges segments.
+pub fn count_upkeep(kind: &Kind) -> u64
+    ensures numbers { result ≡ numbers_of kind.now }
+    ensures most { result ≤ 1 }
+{
+    match kind {
+        Kind::Number { .. } => 1,
+        _ => 0,
+    }
 }

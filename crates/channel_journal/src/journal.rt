@@ -9,12 +9,12 @@ ghost use Rattle.journal_model.specs.Journals.{AreBelow, may_follow};
 ghost use Rattle.journal_model.specs.Puts.{effective};
 ghost use Rattle.journal_model.specs.Tables.{ends};
 ghost use Rattle.journal_model.specs.Answers.{Written, Sealed, answer_at};
-ghost use Rattle.journal_model.specs.Layouts.{layout_of};
+ghost use Rattle.journal_model.specs.Layouts.{number_at, layout_of};
 ghost use Rattle.journal_model.specs.Runs.{IsSound, is_step};
 ghost use Rattle.channel_journal.specs.Notes.{Appends, is_upkeep, number_taken};
 ghost use Rattle.channel_journal.specs.Outcomes.{ended_at, was_live, added_row, ended_row, sealed_number, segment_number, segment_rows, look_reply};
 
-use crate::counters::{count_put, count_remove, count_row, count_seal, is_admitted};
+use crate::counters::{count_put, count_remove, count_row, count_seal, count_upkeep, is_admitted, next_number};
 use crate::notes::Notes;
 use crate::outcomes::{LookOutcome, PutOutcome, RemoveOutcome, SealOutcome};
 use growing_segment::KeyIndex;
@@ -219,11 +219,10 @@ impl Journal {
         requires step { is_step self.old.channel self.old.state (note_of by line kind) ≡ true }
         ensures note { Appends self.old self.new (note_of by line kind) }
     {
-        let number = u64::from(matches!(kind, Kind::Number { .. }));
-        self.spare -= 1;
+        let numbers = count_upkeep(&kind);
         self.spare -= 1;
         self.notes.push(Note { by, line, kind });
-        self.taken += number;
+        self.taken += numbers;
     }
 
     /// Raises the floor, up to the tick.
@@ -298,6 +297,13 @@ impl Journal {
         ensures few { result ≤ length self.now.state.notes }
     {
         self.taken
+    }
+
+    /// The number that is taken next.
+    pub fn next_number(&self) -> u64
+        ensures { result ≡ number_at self.now.channel (layout_of self.now.channel self.now.state.notes).taken }
+    {
+        next_number(self.channel, self.taken)
     }
 
     /// How many keys are live.

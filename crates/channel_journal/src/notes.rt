@@ -52,6 +52,7 @@ impl Notes {
     /// there would be more than 2^56 notes.
     pub fn reserve(&mut self, alloc: Global, n: u32) -> Result<(), Memory>
         ensures room { OnOk result (n ≤ self.new.spare) }
+        ensures few { OnOk result (length self.old.notes + n ≤ 2 ^ 56) }
         ensures notes { self.new.notes ≡ self.old.notes }
         ensures spare { self.old.spare ≤ self.new.spare }
     {
