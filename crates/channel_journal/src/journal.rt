@@ -14,7 +14,9 @@ ghost use Rattle.journal_model.specs.Runs.{IsSound, is_step};
 ghost use Rattle.channel_journal.specs.Notes.{Appends, is_upkeep, number_taken};
 ghost use Rattle.channel_journal.specs.Outcomes.{ended_at, was_live, added_row, ended_row, sealed_number, segment_number, segment_rows, look_reply};
 
-use crate::counters::{count_put, count_remove, count_row, count_seal, count_upkeep, is_admitted, next_number};
+use crate::counters::{
+    count_put, count_remove, count_row, count_seal, count_upkeep, is_admitted, next_number,
+};
 use crate::notes::Notes;
 use crate::outcomes::{LookOutcome, PutOutcome, RemoveOutcome, SealOutcome};
 use growing_segment::KeyIndex;
