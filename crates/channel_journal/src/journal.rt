@@ -310,7 +310,8 @@ impl Journal {
 
     /// How many keys are live.
     pub fn live(&self) -> u64
-        ensures { result ≡ fin.len (live_in self.now.state.notes) }
+        ensures live { result ≡ fin.len (live_in self.now.state.notes) }
+        ensures few { result ≤ length self.now.state.notes }
     {
         self.live
     }

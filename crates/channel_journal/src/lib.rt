@@ -16,3 +16,6 @@ mod outcomes;
 pub use crate::journal::Journal;
 pub use crate::laws::layouts;
 pub use crate::outcomes::{LookOutcome, PutOutcome, RemoveOutcome, SealOutcome};
+
+#[cfg(test)]
+mod tests;
