@@ -8,19 +8,18 @@ use Rattle.std.proofs.lemmas.List.{length_push}
 use Rattle.hybrid_time.specs.declared.times.Timestamp.{Timestamp}
 use Rattle.row_types.specs.declared.rows.Key.{Key}
 use Rattle.row_types.specs.declared.rows.Row.{Row}
-use Rattle.log_model.specs.Logs.{Rows, after, rows_of}
+use Rattle.log_model.specs.Logs.{Rows, after}
 use Rattle.log_model.specs.Places.{Placed, placed}
 use Rattle.log_model.proofs.LogLaws.{rows_of-after}
 use Rattle.journal_model.specs.declared.notes.PutKind.{PutKind}
-use Rattle.journal_model.specs.declared.notes.PutKind.TheVariants.{Insert, Upsert}
+use Rattle.journal_model.specs.declared.notes.PutKind.TheVariants.{Insert}
 use Rattle.journal_model.specs.declared.notes.Kind.{Kind}
 use Rattle.journal_model.specs.declared.notes.Kind.TheVariants.{Put, Remove, Tick, Seal, Look, Number, Load, Release, Lists, Merge}
 use Rattle.journal_model.specs.declared.notes.Note.{Note}
 use Rattle.journal_model.specs.Notes.{entries_of, live_in, tick_after, tick_of}
-use Rattle.journal_model.specs.Puts.{effective_put}
 use Rattle.journal_model.specs.Tables.{reindexed, index_of}
 use Rattle.journal_model.specs.Layouts.{Channel, Layout, with_row, after_seal, layout_after, next_layout, layout_of}
-use Rattle.journal_model.specs.Runs.{IsSound, is_step}
+use Rattle.journal_model.specs.Runs.{is_step}
 use Rattle.journal_model.proofs.NoteLaws.{tick_of-snoc, live_in-snoc}
 use Rattle.journal_model.proofs.LayoutLaws.{layout-snoc}
 use Rattle.journal_model.proofs.RunLaws.{append_sound, raise_sound}

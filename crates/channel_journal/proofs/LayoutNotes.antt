@@ -1,18 +1,16 @@
 -- What each note changes of the layout, and of the counters that are kept of it.
-use Rattle.std.proofs.Common.{◌≡◌, ℕ, ◌+◌, ◌<◌, ◌≤◌, Bool, true, false, cond, List, [], ◌∷◌, ◌++◌, length, Option, Some, None, refl, sym, ap, ap₂, subst, ◌∙◌, arith, lt-ltb, le-ltb, eqb-true}
+use Rattle.std.proofs.Common.{◌≡◌, ℕ, ◌+◌, true, false, cond, List, [], ◌∷◌, ◌++◌, length, Option, Some, None, refl, sym, ap, ◌∙◌, arith, lt-ltb, le-ltb, eqb-true}
 use Rattle.std.specs.Prelude.{nat_eq, nat_lt}
 use Rattle.std.proofs.lemmas.List.{length_push}
 use Rattle.row_types.specs.declared.rows.Row.{Row}
-use Rattle.row_types.specs.declared.rows.Key.{Key}
 use Rattle.hybrid_time.specs.declared.times.Timestamp.{Timestamp}
 use Rattle.log_model.specs.Places.{Placed}
 use Rattle.journal_model.specs.declared.notes.PutKind.{PutKind}
-use Rattle.journal_model.specs.declared.notes.Kind.{Kind}
-use Rattle.journal_model.specs.declared.notes.Kind.TheVariants.{Put, Remove, Tick, Seal, Look}
+use Rattle.journal_model.specs.declared.notes.Kind.TheVariants.{Put, Seal}
 use Rattle.journal_model.specs.declared.notes.Note.{Note}
 use Rattle.journal_model.specs.Notes.{note_of}
 use Rattle.journal_model.specs.Puts.{effective}
-use Rattle.journal_model.specs.Layouts.{Channel, Layout, number_at, with_tail, after_boundary, with_row, after_seal, layout_after, next_layout, layout_of}
+use Rattle.journal_model.specs.Layouts.{Channel, Layout, number_at, with_tail, after_boundary, with_row, after_seal, layout_of}
 use Rattle.journal_model.proofs.LayoutLaws.{layout-snoc}
 use Rattle.channel_journal.specs.Notes.{number_taken}
 use Rattle.channel_journal.specs.Kept.{tail_after_put, taken_after_put, number_after_put, taken_after_seal, number_after_seal}

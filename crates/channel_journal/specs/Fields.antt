@@ -1,5 +1,4 @@
 -- The fields of a journal as contracts see them. Only proofs need it.
-use Rattle.std.specs.Prelude.{ℕ}
 use Rattle.journal_model.specs.Layouts.{Channel}
 use Rattle.channel_journal.specs.declared.journal.Journal.TheInside.{Inside}
 use Rattle.channel_journal.specs.Notes.{ChannelJournal}

@@ -3,7 +3,7 @@ use Rattle.std.specs.Prelude.{◌≡◌, ℕ, ◌+◌, nat_lt, Bool, true, false
 use Rattle.journal_model.specs.declared.notes.Kind.{Kind}
 use Rattle.journal_model.specs.declared.notes.Kind.TheVariants.{Number, Load, Release, Lists, Merge}
 use Rattle.journal_model.specs.declared.notes.Note.{Note}
-use Rattle.journal_model.specs.Layouts.{Channel, Layout, number_at}
+use Rattle.journal_model.specs.Layouts.{Channel, Layout, number_at, layout_of}
 use Rattle.journal_model.specs.Runs.{State}
 
 -- notes in their order, and how many more are taken without memory
@@ -38,3 +38,7 @@ is_upkeep _ = false
 -- the number that was taken between two layouts, where the later one has taken more
 abbrev pub number_taken : Channel → Layout → Layout → Option ℕ
 number_taken channel before after = if nat_lt before.taken after.taken then Some (number_at channel before.taken) else None
+
+-- the number that the layout of a later journal has taken more
+abbrev pub number_between : ChannelJournal → ChannelJournal → Option ℕ
+number_between old new = number_taken old.channel (layout_of old.channel old.state.notes) (layout_of old.channel new.state.notes)

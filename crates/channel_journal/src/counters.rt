@@ -7,6 +7,7 @@ ghost use Rattle.channel_journal.specs.Kept.{admits, live_after_put, live_after_
 
 use crate::outcomes::SealOutcome;
 use journal_model::{Kind, PutKind};
+use std::mem;
 
 /// Whether a put adds its row, by the position of its key's live row.
 pub fn is_admitted(how: PutKind, found: Option<u64>) -> bool
@@ -75,11 +76,10 @@ pub fn count_seal(channel: u32, tail: &mut u32, taken: &mut u64) -> SealOutcome
     ensures number { segment_number result ≡ number_after_seal (record { number = channel; seal_rows = 0 }) tail.old taken.old }
     ensures rows { segment_rows result ≡ tail.old }
 {
-    let rows = *tail;
+    let rows = mem::replace(tail, 0);
     if rows == 0 {
         return SealOutcome::Empty;
     }
-    *tail = 0;
     let number = next_number(channel, *taken);
     *taken += 1;
     SealOutcome::Segment { number, rows }

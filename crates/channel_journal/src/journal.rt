@@ -11,7 +11,7 @@ ghost use Rattle.journal_model.specs.Tables.{ends};
 ghost use Rattle.journal_model.specs.Answers.{Written, Sealed, answer_at};
 ghost use Rattle.journal_model.specs.Layouts.{number_at, layout_of};
 ghost use Rattle.journal_model.specs.Runs.{IsSound, is_step};
-ghost use Rattle.channel_journal.specs.Notes.{Appends, is_upkeep, number_taken};
+ghost use Rattle.channel_journal.specs.Notes.{Appends, is_upkeep, number_between};
 ghost use Rattle.channel_journal.specs.Outcomes.{ended_at, was_live, added_row, ended_row, sealed_number, segment_number, segment_rows, look_reply};
 
 use crate::counters::{
@@ -113,7 +113,7 @@ impl Journal {
         ensures answer { answer_at self.old.channel self.old.state.notes (Put ts how row) ≡ Written (was_live result) }
         ensures added { effective self.old.state.notes (Put ts how row) ≡ added_row (placed (length self.old.state.notes) ts.0 row) result }
         ensures ended { ends self.old.state.notes (Put ts how row) ≡ ended_at ts.0 (ended_row result) }
-        ensures sealed { number_taken self.old.channel (layout_of self.old.channel self.old.state.notes) (layout_of self.old.channel self.new.state.notes) ≡ sealed_number result }
+        ensures sealed { number_between self.old self.new ≡ sealed_number result }
     {
         let key = row.get().key;
         let found = self.index.find(key);
@@ -185,7 +185,7 @@ impl Journal {
         requires below { AreBelow ts.0 self.old.state.notes }
         ensures note { Appends self.old self.new (note_of by line (Seal ts)) }
         ensures answer { answer_at self.old.channel self.old.state.notes (Seal ts) ≡ Sealed (segment_rows result) }
-        ensures sealed { number_taken self.old.channel (layout_of self.old.channel self.old.state.notes) (layout_of self.old.channel self.new.state.notes) ≡ segment_number result }
+        ensures sealed { number_between self.old self.new ≡ segment_number result }
     {
         self.spare -= 1;
         self.notes.push(Note {

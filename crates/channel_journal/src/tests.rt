@@ -60,13 +60,13 @@ fn put_row(journal: &mut Journal, ts: u64, how: PutKind, row: SharedRow) -> Told
     Told::Put(journal.put(1, 7, Timestamp(ts), how, row))
 }
 
-fn remove_row(journal: &mut Journal, ts: u64, key: i64) -> Told
+fn remove_row(journal: &mut Journal, ts: u64, key: Key) -> Told
     requires room { 1 ≤ journal.old.spare }
     requires dated { 1 ≤ ts }
     requires below { AreBelow ts journal.old.state.notes }
     ensures { AreBelow (ts + 1) journal.new.state.notes }
 {
-    Told::Removed(journal.remove_key(1, 7, Timestamp(ts), Key(key)))
+    Told::Removed(journal.remove_key(1, 7, Timestamp(ts), key))
 }
 
 fn tick(journal: &mut Journal, ts: u64) -> Told
@@ -86,11 +86,10 @@ fn seal(journal: &mut Journal, ts: u64) -> Told
     Told::Sealed(journal.seal(1, 7, Timestamp(ts)))
 }
 
-fn look(journal: &mut Journal, guarantee: u64) -> Told
-    ghost ts: { ℕ }
+fn look(journal: &mut Journal, _ts: u64, guarantee: u64) -> Told
     requires room { 1 ≤ journal.old.spare }
-    requires below { AreBelow ts journal.old.state.notes }
-    ensures { AreBelow (ts + 1) journal.new.state.notes }
+    requires below { AreBelow _ts journal.old.state.notes }
+    ensures { AreBelow (_ts + 1) journal.new.state.notes }
 {
     Told::Looked(journal.note_look(1, 7, Timestamp(guarantee)))
 }
@@ -105,10 +104,10 @@ fn take(journal: &mut Journal, alloc: Global, ts: u64, step: Step) -> Result<Tol
     let told = match step {
         Step::Insert(key) => put_row(journal, ts, PutKind::Insert, row_of(alloc, key)?),
         Step::Upsert(key) => put_row(journal, ts, PutKind::Upsert, row_of(alloc, key)?),
-        Step::Remove(key) => remove_row(journal, ts, key),
+        Step::Remove(key) => remove_row(journal, ts, Key(key)),
         Step::Tick => tick(journal, ts),
         Step::Seal => seal(journal, ts),
-        Step::Look(guarantee) => look(journal, guarantee),
+        Step::Look(guarantee) => look(journal, ts, guarantee),
     };
     Ok(told)
 }

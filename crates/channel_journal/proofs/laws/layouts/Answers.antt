@@ -1,4 +1,4 @@
-use Rattle.std.proofs.Common.{None, ap}
+use Rattle.std.proofs.Common.{None}
 use Rattle.journal_model.specs.declared.notes.Kind.TheVariants.{Remove, Tick, Look}
 use Rattle.journal_model.specs.Notes.{note_of}
 use Rattle.journal_model.specs.Layouts.{layout_of}

@@ -4,7 +4,6 @@ use Rattle.std.specs.FinMap as fin
 use Rattle.row_types.specs.declared.rows.Row.{Row}
 use Rattle.log_model.specs.Places.{Placed, placed}
 use Rattle.journal_model.specs.declared.notes.Kind.TheVariants.{Put}
-use Rattle.journal_model.specs.declared.notes.Note.{Note}
 use Rattle.journal_model.specs.Notes.{note_of, live_in}
 use Rattle.journal_model.specs.Journals.{may_follow}
 use Rattle.journal_model.specs.Puts.{effective_put}

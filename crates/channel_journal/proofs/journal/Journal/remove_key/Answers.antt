@@ -1,6 +1,5 @@
 use Rattle.std.proofs.Common.{◌≡◌, ◌∙◌, true, subst, sym, refl, ap, arith}
 use Rattle.std.specs.Prelude.{is_some}
-use Rattle.std.specs.FinMap as fin
 use Rattle.journal_model.specs.declared.notes.Kind.TheVariants.{Remove}
 use Rattle.journal_model.specs.Notes.{note_of}
 use Rattle.journal_model.specs.Journals.{may_follow}

@@ -1,4 +1,4 @@
-use Rattle.std.proofs.Common.{◌≡◌, ◌∙◌, ℕ, subst, sym, refl, ap, ap₂, arith}
+use Rattle.std.proofs.Common.{◌∙◌, subst, sym, refl, ap, ap₂, arith}
 use Rattle.journal_model.specs.declared.notes.Kind.TheVariants.{Seal}
 use Rattle.journal_model.specs.Notes.{note_of}
 use Rattle.journal_model.specs.Journals.{AreBelow}
