@@ -132,8 +132,8 @@ homes_of (Some p) = p.homes
 abbrev pub homed : fin.FinMap nat_cmp Placement → Piece → MarkedSegment
 homed places s = record { number = s.number; homes = homes_of (fin.get places s.number); rows = s.rows }
 
-abbrev pub seen : ℕ → List Kind → MarkedTail → List Piece → Table → MarkedLayout
-seen dim kinds tail pieces places = record { dim = dim; kinds = kinds; nodes = places.nodes; tail = tail.rows; segments = map (homed places.segments) pieces }
+abbrev pub seen : List Kind → MarkedTail → List Piece → Table → MarkedLayout
+seen kinds tail pieces places = record { dim = tail.dim; kinds = kinds; nodes = places.nodes; tail = tail.rows; segments = map (homed places.segments) pieces }
 
 abbrev pub Fits : ℕ → List Kind → Shown → Type 0
 Fits dim kinds s = IsRowOf dim kinds (placed_of s)

@@ -64,11 +64,13 @@ fn window<'a>(positions: &[u64], deaths: &'a [(u64, Timestamp)]) -> &'a [(u64, T
     ensures rise { Climb (places_in result.now) }
     ensures hits { (marks : List (ℕ × ℕ)) → hits_of positions.now marks result.now ≡ hits_of positions.now marks deaths.now }
 {
-    let (Some(first), Some(last)) = (positions.first(), positions.last()) else {
+    if positions.is_empty() {
         return &[];
-    };
-    let (_, above) = deaths.split_at(count_below(deaths, *first));
-    let (within, _) = above.split_at(count_up_to(above, *last));
+    }
+    let first = positions[0];
+    let last = positions[positions.len() - 1];
+    let (_, above) = deaths.split_at(count_below(deaths, first));
+    let (within, _) = above.split_at(count_up_to(above, last));
     within
 }
 

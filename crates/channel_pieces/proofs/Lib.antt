@@ -1,0 +1,3 @@
+pub mod DeathLaws
+pub mod MarkLaws
+pub mod PieceLaws

@@ -1,0 +1,249 @@
+-- The pieces of a channel: what each call makes of them, and what they keep.
+use Rattle.std.proofs.Common.{◌≡◌, ◌≢◌, ℕ, zero, suc, ◌+◌, ◌^◌, ◌<◌, ◌≤◌, nat_eq, Bool, true, false, not, cond, List, [], ◌∷◌, ◌++◌, length, map, take, drop, get_or, Option, Some, None, refl, sym, ap, ap₂, subst, ◌∙◌, ⊎_elim, eq-eqb, ne_eqb, length-append, arith}
+use Rattle.std.specs.List.{AllByRecursion}
+use Rattle.std.specs.Option.{option_map, option_or, is_some, IfSome}
+use Rattle.std.specs.Ordering.{nat_cmp, eq_by_cmp}
+use Rattle.std.specs.Cmp.{nat_cmp_total, eq_by_cmp_equiv, Equal-is}
+use Rattle.std.specs.FinMap as fin
+use Rattle.std.proofs.lemmas.Bool.{cases_eq, eqb-true, eqb-false}
+use Rattle.hybrid_time.specs.declared.times.Timestamp.{Timestamp}
+use Rattle.row_types.specs.Bits.{IsDimension}
+use Rattle.row_types.specs.declared.rows.Kind.{Kind}
+use Rattle.log_model.specs.Places.{Placed, PlacedBefore, Rise, placed}
+use Rattle.journal_model.specs.declared.notes.Home.{Home}
+use Rattle.journal_model.specs.declared.notes.Home.TheVariants.{Leader, Node}
+use Rattle.journal_model.specs.Views.{Shown}
+use Rattle.seg_sealed.specs.Segments.{IsSealed, IsRowOf, sealed_rows, dim_of, kinds_of, kind_of}
+use Rattle.seg_sealed.specs.Parts.{shown_from, shown_as}
+use Rattle.place_table.specs.Tables.{Placement, Table, at_leader, with_added}
+use Rattle.channel_pieces.specs.Pieces.{MarkedSegment, MarkedLayout, placed_of, marked_by, death_in, segment_marked, after_close, after_deaths}
+use Rattle.channel_pieces.specs.Fields.{Climb, Piece, MarkedTail, homes_of, homed, seen, Fits, IsPiece, rows_at, numbers_of, KeepsPieces, readied, committed, settled, tail_readied, tail_committed, piece_of}
+use Rattle.channel_pieces.proofs.MarkLaws.{marked_alike}
+
+abbrev pub Places : Type 0
+Places = fin.FinMap nat_cmp Placement
+
+-- ---- rows that fit
+
+pub fits_push : (P : Shown → Type 0) (rows : List Shown) (s : Shown) → AllByRecursion P rows → P s → AllByRecursion P (rows ++ s ∷ [])
+fits_push P [] s all one = (one, tt)
+fits_push P (r ∷ rows) s all one = (all.0, fits_push P rows s all.1 one)
+
+pub fits_marked : (dim : ℕ) (kinds : List Kind) (deaths : List (ℕ × Timestamp)) (rows : List Shown) → AllByRecursion (Fits dim kinds) rows → AllByRecursion (Fits dim kinds) (map (marked_by deaths) rows)
+fits_marked dim kinds deaths [] all = tt
+fits_marked dim kinds deaths (s ∷ rows) all = (all.0, fits_marked dim kinds deaths rows all.1)
+
+fits_placed : (dim : ℕ) (kinds : List Kind) (rows : List Shown) → AllByRecursion (Fits dim kinds) rows → AllByRecursion (IsRowOf dim kinds) (map placed_of rows)
+fits_placed dim kinds [] all = tt
+fits_placed dim kinds (s ∷ rows) all = (all.0, fits_placed dim kinds rows all.1)
+
+pub length-map_rows : {X Y : Type 0} (f : X → Y) (xs : List X) → length (map f xs) ≡ length xs
+length-map_rows f [] = refl
+length-map_rows f (x ∷ xs) = ap suc (length-map_rows f xs)
+
+-- what is known of a tail that is sealed
+pub record IsSealable (number dim : ℕ) (kinds : List Kind) (rows : List Shown) : Type 0 where
+  pub sealed : IsSealed (sealed_rows number (map placed_of rows))
+  pub dim_is : dim_of (map placed_of rows) ≡ dim
+  pub kinds_are : kinds_of (map placed_of rows) ≡ kinds
+
+pub sealable : (number dim : ℕ) (kinds : List Kind) (rows : List Shown) → number < 2 ^ 60 → IsDimension dim → length kinds ≤ 16 → 0 < length rows → length rows ≤ 65536 → Rise (map placed_of rows) → AllByRecursion (Fits dim kinds) rows
+    → IsSealable number dim kinds rows
+sealable number dim kinds [] low is width some few up fit = absurd (omega arith)
+sealable number dim kinds (s ∷ rows) low is width some few up fit =
+    let all : AllByRecursion (IsRowOf dim kinds) (map placed_of (s ∷ rows)) = fits_placed dim kinds (s ∷ rows) fit in
+    let d : length s.row.vector ≡ dim = fit.0.vector in
+    let k : map kind_of s.row.fields ≡ kinds = fit.0.fields in
+    let count : length (map placed_of (s ∷ rows)) ≡ length (s ∷ rows) = length-map_rows placed_of (s ∷ rows) in
+    record {
+      sealed = record {
+        number = low;
+        dim = subst IsDimension (sym d) is;
+        width = subst (λ (l : List Kind). length l ≤ 16) (sym k) width;
+        some = omega arith;
+        few = omega arith;
+        rise = up;
+        rows = subst (λ (n : ℕ). AllByRecursion (IsRowOf n (map kind_of s.row.fields)) (map placed_of (s ∷ rows))) (sym d) (subst (λ (l : List Kind). AllByRecursion (IsRowOf dim l) (map placed_of (s ∷ rows))) (sym k) all);
+        lists = tt;
+      };
+      dim_is = d;
+      kinds_are = k;
+    }
+
+-- rows before a row, seen with their marks or without them
+pub before_shown : (marks : List (ℕ × ℕ)) (i : ℕ) (x : Placed) (rows : List Placed) → AllByRecursion (λ s. PlacedBefore (placed_of s) x) (shown_from marks i rows) → AllByRecursion (λ y. PlacedBefore y x) rows
+before_shown marks i x [] all = tt
+before_shown marks i x (y ∷ rows) all = (all.0, before_shown marks (suc i) x rows all.1)
+
+-- ---- numbers
+
+pub none_at : (places : Places) (number : ℕ) (pieces : List Piece) → AllByRecursion (λ s. s.number < number) (map (homed places) pieces) → rows_at pieces number ≡ None
+none_at places number [] all = refl
+none_at places number (s ∷ pieces) all =
+    ap (λ b. cond b (Some (length s.rows)) (rows_at pieces number)) (ne_eqb s.number number (λ e. let h = all.0 in absurd (omega arith)))
+    ∙ none_at places number pieces all.1
+
+pub below_number : (places : Places) (number : ℕ) (pieces : List Piece) → AllByRecursion (λ s. s.number < number) (map (homed places) pieces) → AllByRecursion (λ n. n < number) (numbers_of pieces)
+below_number places number [] all = tt
+below_number places number (s ∷ pieces) all = (all.0, below_number places number pieces all.1)
+
+pub absent : (o : Option Placement) → option_map (λ p. p.rows) o ≡ None → o ≡ None
+absent None e = refl
+absent (Some p) e = absurd (let h : Some p.rows ≡ None = e in cc)
+
+pub climb_push : (ps : List ℕ) (p : ℕ) → Climb ps → AllByRecursion (λ n. n < p) ps → Climb (ps ++ p ∷ [])
+climb_push [] p c all = (tt, tt)
+climb_push (q ∷ ps) p c all = (go ps c.0, climb_push ps p c.1 all.1)
+  where
+    go : (rs : List ℕ) → AllByRecursion (λ r. q < r) rs → AllByRecursion (λ r. q < r) (rs ++ p ∷ [])
+    go [] h = (all.0, tt)
+    go (r ∷ rs) h = (h.0, go rs h.1)
+
+numbers-push : (pieces : List Piece) (s : Piece) → numbers_of (pieces ++ s ∷ []) ≡ numbers_of pieces ++ s.number ∷ []
+numbers-push [] s = refl
+numbers-push (t ∷ pieces) s = ap (λ l. t.number ∷ l) (numbers-push pieces s)
+
+-- ---- one segment more
+
+same_of : (j k : ℕ) → eq_by_cmp nat_cmp j k ≡ true → j ≡ k
+same_of j k e = fin.nat_cmp-IsAntisymmetric j k ((Equal-is (nat_cmp j k)).0 e)
+
+pub get_same : (places : Places) (number : ℕ) (p : Placement) → fin.get (fin.insert places number p) number ≡ Some p
+get_same places number p = fin.get-insert nat_cmp_total places number p number ∙ ap (λ b. cond b (Some p) (fin.get places number)) ((eq_by_cmp_equiv nat_cmp_total).refl number)
+
+pub get_other : (places : Places) (number : ℕ) (p : Placement) (other : ℕ) → other ≢ number → fin.get (fin.insert places number p) other ≡ fin.get places other
+get_other places number p other ne = fin.get-insert nat_cmp_total places number p other ∙ go (eq_by_cmp nat_cmp other number) refl
+  where
+    go : (b : Bool) → eq_by_cmp nat_cmp other number ≡ b → cond b (Some p) (fin.get places other) ≡ fin.get places other
+    go true e = absurd (ne (same_of other number e))
+    go false e = refl
+
+homed_below : (places : Places) (number : ℕ) (p : Placement) (pieces : List Piece) → AllByRecursion (λ n. n < number) (numbers_of pieces) → map (homed (fin.insert places number p)) pieces ≡ map (homed places) pieces
+homed_below places number p [] all = refl
+homed_below places number p (s ∷ pieces) all =
+    ap₂ (λ (hs : List Home) (l : List MarkedSegment). record { number = s.number; homes = hs; rows = s.rows } ∷ l) (ap homes_of (get_other places number p s.number (λ e. let h = all.0 in absurd (omega arith)))) (homed_below places number p pieces all.1)
+
+homed-append : (places : Places) (xs ys : List Piece) → map (homed places) (xs ++ ys) ≡ map (homed places) xs ++ map (homed places) ys
+homed-append places [] ys = refl
+homed-append places (x ∷ xs) ys = ap (λ l. homed places x ∷ l) (homed-append places xs ys)
+
+pub homed_push : (places : Places) (number rows : ℕ) (pieces : List Piece) (s : Piece) → AllByRecursion (λ n. n < number) (numbers_of pieces) → s.number ≡ number
+    → map (homed (fin.insert places number (at_leader rows))) (pieces ++ s ∷ []) ≡ map (homed places) pieces ++ record { number = number; homes = Leader ∷ []; rows = s.rows } ∷ []
+homed_push places number rows pieces s all e =
+    homed-append (fin.insert places number (at_leader rows)) pieces (s ∷ [])
+    ∙ ap₂ (λ (l : List MarkedSegment) m. l ++ m ∷ []) (homed_below places number (at_leader rows) pieces all)
+    (ap₂ (λ (n : ℕ) (hs : List Home). record { number = n; homes = hs; rows = s.rows }) e (ap homes_of (ap (fin.get (fin.insert places number (at_leader rows))) e ∙ get_same places number (at_leader rows))))
+
+rows_push : (pieces : List Piece) (s : Piece) (number : ℕ) → rows_at pieces s.number ≡ None → rows_at (pieces ++ s ∷ []) number ≡ cond (nat_eq s.number number) (Some (length s.rows)) (rows_at pieces number)
+rows_push [] s number none = refl
+rows_push (t ∷ pieces) s number none = go (nat_eq t.number s.number) refl
+  where
+    some_none : {A : Type 0} (x : A) → Some x ≡ None → ⊥
+    some_none x h = cc
+
+    go : (b : Bool) → nat_eq t.number s.number ≡ b → rows_at ((t ∷ pieces) ++ s ∷ []) number ≡ cond (nat_eq s.number number) (Some (length s.rows)) (rows_at (t ∷ pieces) number)
+    go true e = absurd (some_none (length t.rows) (sym (ap (λ b. cond b (Some (length t.rows)) (rows_at pieces s.number)) e) ∙ none))
+    go false e =
+        let rest = rows_push pieces s number (sym (ap (λ b. cond b (Some (length t.rows)) (rows_at pieces s.number)) e) ∙ none) in
+        ap (cond (nat_eq t.number number) (Some (length t.rows))) rest ∙ swap (nat_eq t.number number) (nat_eq s.number number) refl refl
+      where
+        swap : (a b : Bool) → nat_eq t.number number ≡ a → nat_eq s.number number ≡ b → cond a (Some (length t.rows)) (cond b (Some (length s.rows)) (rows_at pieces number)) ≡ cond b (Some (length s.rows)) (cond a (Some (length t.rows)) (rows_at pieces number))
+        swap true true f h = absurd (eqb-false t.number s.number e (eqb-true t.number number f ∙ sym (eqb-true s.number number h)))
+        swap true false f h = refl
+        swap false true f h = refl
+        swap false false f h = refl
+
+fits_all_push : (P : Piece → Type 0) (pieces : List Piece) (s : Piece) → AllByRecursion P pieces → P s → AllByRecursion P (pieces ++ s ∷ [])
+fits_all_push P [] s all one = (one, tt)
+fits_all_push P (t ∷ pieces) s all one = (all.0, fits_all_push P pieces s all.1 one)
+
+pub close_keeps : (kinds : List Kind) (tail next : MarkedTail) (pieces : List Piece) (places : Table) (number rows : ℕ) (s : Piece)
+    → KeepsPieces kinds tail pieces places → next.dim ≡ tail.dim → next.rows ≡ [] → AllByRecursion (λ n. n < number) (numbers_of pieces) → rows_at pieces number ≡ None
+    → s.number ≡ number → s.dim ≡ tail.dim → s.kinds ≡ kinds → length s.rows ≡ rows
+    → KeepsPieces kinds next (pieces ++ s ∷ []) (with_added places number rows)
+close_keeps kinds tail next pieces places number rows s kept dim none below absent_one number_is dim_is kinds_are rows_are = record {
+  dim = subst IsDimension (sym dim) kept.dim;
+  width = kept.width;
+  tail_fits = subst (AllByRecursion (Fits next.dim kinds)) (sym none) tt;
+  pieces_fit = subst (λ (n : ℕ). AllByRecursion (IsPiece n kinds) (pieces ++ s ∷ [])) (sym dim) (fits_all_push (IsPiece tail.dim kinds) pieces s kept.pieces_fit (record { dim_is = dim_is; kinds_are = kinds_are }));
+  rise = subst Climb (sym (numbers-push pieces s ∙ ap (λ (n : ℕ). numbers_of pieces ++ n ∷ []) number_is)) (climb_push (numbers_of pieces) number kept.rise below);
+  placed = λ k. ⊎_elim
+    (λ (e : k ≡ number).
+      ap (λ n. option_map (λ p. p.rows) (fin.get (fin.insert places.segments number (at_leader rows)) n)) e ∙ ap (option_map (λ p. p.rows)) (get_same places.segments number (at_leader rows))
+      ∙ ap (λ n. Some n) (sym rows_are)
+      ∙ sym (rows_push pieces s k (ap (rows_at pieces) number_is ∙ absent_one) ∙ ap (λ b. cond b (Some (length s.rows)) (rows_at pieces k)) (eq-eqb s.number k (number_is ∙ sym e))))
+    (λ (ne : k ≢ number).
+      ap (option_map (λ p. p.rows)) (get_other places.segments number (at_leader rows) k ne) ∙ kept.placed k
+      ∙ sym (rows_push pieces s k (ap (rows_at pieces) number_is ∙ absent_one) ∙ ap (λ b. cond b (Some (length s.rows)) (rows_at pieces k)) (ne_eqb s.number k (λ e. ne (sym e ∙ number_is)))))
+    (cases_eq k number);
+}
+
+-- ---- pieces that are the same but for what is prepared
+
+numbers_settled : (pieces : List Piece) → numbers_of pieces ≡ numbers_of (map settled pieces)
+numbers_settled [] = refl
+numbers_settled (s ∷ pieces) = ap (λ l. s.number ∷ l) (numbers_settled pieces)
+
+rows_settled : (number : ℕ) (pieces : List Piece) → rows_at pieces number ≡ rows_at (map settled pieces) number
+rows_settled number [] = refl
+rows_settled number (s ∷ pieces) = ap (cond (nat_eq s.number number) (Some (length s.rows))) (rows_settled number pieces)
+
+homed_settled : (places : Places) (pieces : List Piece) → map (homed places) pieces ≡ map (homed places) (map settled pieces)
+homed_settled places [] = refl
+homed_settled places (s ∷ pieces) = ap (λ l. homed places s ∷ l) (homed_settled places pieces)
+
+fit_settled : (dim : ℕ) (kinds : List Kind) (pieces : List Piece) → AllByRecursion (IsPiece dim kinds) pieces → AllByRecursion (IsPiece dim kinds) (map settled pieces)
+fit_settled dim kinds [] all = tt
+fit_settled dim kinds (s ∷ pieces) all = (record { dim_is = all.0.dim_is; kinds_are = all.0.kinds_are }, fit_settled dim kinds pieces all.1)
+
+fit_back : (dim : ℕ) (kinds : List Kind) (pieces : List Piece) → AllByRecursion (IsPiece dim kinds) (map settled pieces) → AllByRecursion (IsPiece dim kinds) pieces
+fit_back dim kinds [] all = tt
+fit_back dim kinds (s ∷ pieces) all = (record { dim_is = all.0.dim_is; kinds_are = all.0.kinds_are }, fit_back dim kinds pieces all.1)
+
+pub same_homed : (places : Places) (xs ys : List Piece) → map settled ys ≡ map settled xs → map (homed places) ys ≡ map (homed places) xs
+same_homed places xs ys e = homed_settled places ys ∙ ap (map (homed places)) e ∙ sym (homed_settled places xs)
+
+pub settled_keeps : (kinds : List Kind) (tail next : MarkedTail) (xs ys : List Piece) (places : Table) → KeepsPieces kinds tail xs places → next.dim ≡ tail.dim → next.rows ≡ tail.rows → map settled ys ≡ map settled xs → KeepsPieces kinds next ys places
+settled_keeps kinds tail next xs ys places kept dim rows e = record {
+  dim = subst IsDimension (sym dim) kept.dim;
+  width = kept.width;
+  tail_fits = subst (λ (n : ℕ). AllByRecursion (Fits n kinds) next.rows) (sym dim) (subst (AllByRecursion (Fits tail.dim kinds)) (sym rows) kept.tail_fits);
+  pieces_fit = subst (λ (n : ℕ). AllByRecursion (IsPiece n kinds) ys) (sym dim) (fit_back tail.dim kinds ys (subst (AllByRecursion (IsPiece tail.dim kinds)) (sym e) (fit_settled tail.dim kinds xs kept.pieces_fit)));
+  rise = subst Climb (sym (numbers_settled ys ∙ ap numbers_of e ∙ sym (numbers_settled xs))) kept.rise;
+  placed = λ k. kept.placed k ∙ rows_settled k xs ∙ ap (λ l. rows_at l k) (sym e) ∙ sym (rows_settled k ys);
+}
+
+-- ---- pieces after deaths
+
+abbrev pub after : List (ℕ × Timestamp) → List Piece → List Piece
+after deaths pieces = map committed (map (readied deaths) pieces)
+
+numbers_after : (deaths : List (ℕ × Timestamp)) (pieces : List Piece) → numbers_of (after deaths pieces) ≡ numbers_of pieces
+numbers_after deaths [] = refl
+numbers_after deaths (s ∷ pieces) = ap (λ l. s.number ∷ l) (numbers_after deaths pieces)
+
+rows_after : (deaths : List (ℕ × Timestamp)) (number : ℕ) (pieces : List Piece) → rows_at (after deaths pieces) number ≡ rows_at pieces number
+rows_after deaths number [] = refl
+rows_after deaths number (s ∷ pieces) = ap₂ (λ (n : ℕ) (o : Option ℕ). cond (nat_eq s.number number) (Some n) o) (length-map_rows (marked_by deaths) s.rows) (rows_after deaths number pieces)
+
+fit_after : (dim : ℕ) (kinds : List Kind) (deaths : List (ℕ × Timestamp)) (pieces : List Piece) → AllByRecursion (IsPiece dim kinds) pieces → AllByRecursion (IsPiece dim kinds) (after deaths pieces)
+fit_after dim kinds deaths [] all = tt
+fit_after dim kinds deaths (s ∷ pieces) all = (record { dim_is = all.0.dim_is; kinds_are = all.0.kinds_are }, fit_after dim kinds deaths pieces all.1)
+
+pub marked_keeps : (kinds : List Kind) (tail : MarkedTail) (pieces : List Piece) (places : Table) (deaths : List (ℕ × Timestamp)) → KeepsPieces kinds tail pieces places → KeepsPieces kinds (tail_committed (tail_readied deaths tail)) (after deaths pieces) places
+marked_keeps kinds tail pieces places deaths kept = record {
+  dim = kept.dim;
+  width = kept.width;
+  tail_fits = fits_marked tail.dim kinds deaths tail.rows kept.tail_fits;
+  pieces_fit = fit_after tail.dim kinds deaths pieces kept.pieces_fit;
+  rise = subst Climb (sym (numbers_after deaths pieces)) kept.rise;
+  placed = λ k. kept.placed k ∙ sym (rows_after deaths k pieces);
+}
+
+homed_after : (places : Places) (sorted deaths : List (ℕ × Timestamp)) (pieces : List Piece) → ((position : ℕ) → death_in sorted position ≡ death_in deaths position) → map (homed places) (after sorted pieces) ≡ map (segment_marked deaths) (map (homed places) pieces)
+homed_after places sorted deaths [] same = refl
+homed_after places sorted deaths (s ∷ pieces) same = ap₂ (λ (rows : List Shown) (l : List MarkedSegment). record { number = s.number; homes = homes_of (fin.get places s.number); rows = rows } ∷ l) (marked_alike sorted deaths s.rows same) (homed_after places sorted deaths pieces same)
+
+pub marked_seen : (kinds : List Kind) (tail : MarkedTail) (pieces : List Piece) (places : Table) (sorted deaths : List (ℕ × Timestamp)) → ((position : ℕ) → death_in sorted position ≡ death_in deaths position)
+    → seen kinds (tail_committed (tail_readied sorted tail)) (after sorted pieces) places ≡ after_deaths deaths (seen kinds tail pieces places)
+marked_seen kinds tail pieces places sorted deaths same = ap₂ (λ (rows : List Shown) (l : List MarkedSegment). record { dim = tail.dim; kinds = kinds; nodes = places.nodes; tail = rows; segments = l }) (marked_alike sorted deaths tail.rows same) (homed_after places.segments sorted deaths pieces same)
