@@ -1,5 +1,5 @@
 -- Deaths by position: in rising order, in another order, and among the rows at some positions.
-use Rattle.std.proofs.Common.{◌≡◌, ◌≢◌, ℕ, zero, suc, ◌+◌, ◌<◌, ◌≤◌, nat_eq, nat_lt, nat_le, Bool, true, false, cond, List, [], ◌∷◌, ◌++◌, length, map, take, drop, get_or, append_assoc, append-nil, ◌-◌, Option, Some, None, Result, Ok, Err, refl, sym, ap, ap₂, subst, ◌∙◌, ⊎_elim, eq-eqb, ne_eqb, arith}
+use Rattle.std.proofs.Common.{◌≡◌, ◌≢◌, ℕ, zero, suc, ◌+◌, ◌<◌, ◌≤◌, nat_eq, nat_lt, nat_le, Bool, true, false, cond, List, [], ◌∷◌, ◌++◌, length, map, take, drop, get_or, append_assoc, append-nil, ◌-◌, ◌==◌, Option, Some, None, Result, Ok, Err, refl, sym, ap, ap₂, subst, ◌∙◌, ⊎_elim, eq-eqb, ne_eqb, arith}
 use Rattle.std.specs.List.{AllByRecursion, IsDistinct}
 use Rattle.std.specs.List.Sorted.{IsPermutation, IsNonDecreasingBy, IsBinarySearchResult, IsPartitionPoint}
 use Rattle.std.specs.Ordering.{nat_cmp}
@@ -171,7 +171,7 @@ all_below (d ∷ deaths) (suc n) position le h = (let f = h 0 d (omega arith) in
 pub all_above : (deaths : List Death) (n position : ℕ) → ((k : ℕ) (e : Death) → n ≤ k → k < length deaths → nat_le (get_or deaths k e).0 position ≡ false) → AllByRecursion (λ d. position < d.0) (drop n deaths)
 all_above [] n position h = all_none n
   where
-    all_none : (n : ℕ) → AllByRecursion (λ d. position < d.0) (drop n [])
+    all_none : (n : ℕ) → AllByRecursion (λ (d : Death). position < d.0) (drop n [])
     all_none zero = tt
     all_none (suc n) = tt
 all_above (d ∷ deaths) (suc n) position h = all_above deaths n position (λ k e le lt. h (suc k) e (omega arith) (omega arith))
@@ -212,3 +212,7 @@ hits_more ps marks (d ∷ deaths) (suc k) e lt =
 pub no_rows : (marks : List (ℕ × ℕ)) (deaths : List Death) → [] ≡ hits_of [] marks deaths
 no_rows marks [] = refl
 no_rows marks (d ∷ deaths) = no_rows marks deaths
+
+pub none_of : (ps : List ℕ) → (length ps == 0) ≡ true → ps ≡ []
+none_of [] e = refl
+none_of (p ∷ ps) e = absurd (let b : ⊥ = grind arith in b)

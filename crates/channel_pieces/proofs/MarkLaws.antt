@@ -1,7 +1,7 @@
 -- Rows with their marks, and what some deaths make of them.
 use Rattle.std.proofs.Common.{◌≡◌, ◌≢◌, ℕ, zero, suc, ◌+◌, ◌<◌, ◌≤◌, nat_eq, Bool, true, false, cond, List, [], ◌∷◌, ◌++◌, length, map, take, drop, get_or, Option, Some, None, refl, sym, ap, ap₂, subst, ◌∙◌, ⊎_elim, eq-eqb, ne_eqb, arith}
 use Rattle.std.specs.List.{AllByRecursion}
-use Rattle.std.specs.Option.{option_map, option_or}
+use Rattle.std.specs.Option.{option_map, option_or, IfSome}
 use Rattle.std.specs.Map.{lookup}
 use Rattle.std.specs.Ordering.{nat_cmp, eq_by_cmp}
 use Rattle.std.specs.Cmp.{nat_cmp_total, eq_by_cmp_equiv, Equal-is}
@@ -14,10 +14,10 @@ use Rattle.hybrid_time.specs.declared.times.Timestamp.{Timestamp}
 use Rattle.log_model.specs.Places.{Placed, PlacedBefore, Rise}
 use Rattle.journal_model.specs.Views.{Shown}
 use Rattle.seg_sealed.specs.Segments.{position_of}
-use Rattle.seg_sealed.specs.Marks.{death_at, with_death}
+use Rattle.seg_sealed.specs.Marks.{Marked, death_at, with_death}
 use Rattle.seg_sealed.specs.Parts.{AreDeathsOf, shown_from, shown_as}
 use Rattle.channel_pieces.specs.Pieces.{placed_of, death_in, marked_by}
-use Rattle.channel_pieces.specs.Fields.{Climb, places_in, index_from, index_in, hit_at, unless_marked, hits_of, with_hits, AreOpen}
+use Rattle.channel_pieces.specs.Fields.{Climb, places_in, index_from, index_in, hit_at, unless_marked, hits_of, with_hits, AreOpen, deaths_next, AreMarksOf}
 use Rattle.channel_pieces.proofs.DeathLaws.{Death, all_at, IsIndexIn, index_there, none_from}
 
 -- ---- rows without their marks
@@ -147,30 +147,40 @@ others_hit ps p row ts marks (d ∷ deaths) e all = ap₂ (λ (a : List Death) l
         let there = index_there ps d.0 k f in
         ap (λ m. unless_marked m k d.1) (death_other k row ts marks (λ same. let h = all.0 in let t : get_or ps k 0 ≡ d.0 = there.there in let u : get_or ps k 0 ≡ p = ap (λ n. get_or ps n 0) same ∙ e in absurd (omega arith)))
 
+-- each hit is of a row without a mark
+pub hits_free : (ps : List ℕ) (deaths : List Death) (marks : List (ℕ × ℕ)) → Climb (places_in deaths) → AreOpen (hits_of ps marks deaths) marks
+hits_free ps [] marks up = tt
+hits_free ps (d ∷ deaths) marks up = go (λ now. hits_free ps deaths now up.1) (index_in ps d.0) refl
+  where
+    at_row : ((now : List (ℕ × ℕ)) → AreOpen (hits_of ps now deaths) now) → (k : ℕ) → IsIndexIn ps d.0 k → (m : Option ℕ) → death_at k marks ≡ m → AreOpen (unless_marked m k d.1 ++ hits_of ps marks deaths) marks
+    at_row rest k there (Some t) f = rest marks
+    at_row rest k there None f = (f, subst (λ (h : List Death). AreOpen h (with_death k d.1.0 marks)) (others_hit ps d.0 k d.1.0 marks deaths there.there up.0) (rest (with_death k d.1.0 marks)))
+
+    go : ((now : List (ℕ × ℕ)) → AreOpen (hits_of ps now deaths) now) → (o : Option ℕ) → index_in ps d.0 ≡ o → AreOpen (hit_at marks d.1 o ++ hits_of ps marks deaths) marks
+    go rest None f = rest marks
+    go rest (Some k) f = at_row rest k (index_there ps d.0 k f) (death_at k marks) refl
+
 -- what some hits, of some deaths, make of rows
 pub record AreHits (rows : List Placed) (deaths : List Death) (marks : List (ℕ × ℕ)) (hits : List Death) : Type 0 where
   pub marked : shown_from (with_hits hits marks) 0 rows ≡ map (marked_by deaths) (shown_from marks 0 rows)
-  pub free : AreOpen hits marks
   pub within : AllByRecursion (λ h. h.0 < length rows) hits
 
 -- a death that changes nothing
 no_hit : (rows : List Placed) (d : Death) (deaths : List Death) (marks : List (ℕ × ℕ)) (hits : List Death) → AreHits rows deaths marks hits → map (marked_by (only d.0 d.1)) (shown_from marks 0 rows) ≡ shown_from marks 0 rows → AreHits rows (d ∷ deaths) marks hits
 no_hit rows d deaths marks hits rest same = record {
   marked = rest.marked ∙ sym (all_more d deaths (shown_from marks 0 rows) ∙ ap (map (marked_by deaths)) same);
-  free = rest.free;
   within = rest.within;
 }
 
 -- a death that marks a row
-one_hit : (rows : List Placed) (d : Death) (deaths : List Death) (marks : List (ℕ × ℕ)) (k : ℕ) (hits : List Death) → AreHits rows deaths (with_death k d.1.0 marks) hits → death_at k marks ≡ None → k < length rows
+one_hit : (rows : List Placed) (d : Death) (deaths : List Death) (marks : List (ℕ × ℕ)) (k : ℕ) (hits : List Death) → AreHits rows deaths (with_death k d.1.0 marks) hits → k < length rows
     → shown_from (with_death k d.1.0 marks) 0 rows ≡ map (marked_by (only d.0 d.1)) (shown_from marks 0 rows) → AreHits rows (d ∷ deaths) marks ((k, d.1) ∷ hits)
-one_hit rows d deaths marks k hits rest none lt one = record {
+one_hit rows d deaths marks k hits rest lt one = record {
   marked = rest.marked ∙ ap (map (marked_by deaths)) one ∙ sym (all_more d deaths (shown_from marks 0 rows));
-  free = (none, rest.free);
   within = (lt, rest.within);
 }
 
-length_positions : (rows : List Placed) → length (map position_of rows) ≡ length rows
+pub length_positions : (rows : List Placed) → length (map position_of rows) ≡ length rows
 length_positions [] = refl
 length_positions (x ∷ rows) = ap suc (length_positions rows)
 
@@ -191,14 +201,14 @@ next_hit rows d deaths marks c up rest = go (index_in (map position_of rows) d.0
         ap (λ n. shown_from (with_death n d.1.0 marks) 0 rows) zero_k ∙ hit_row d.0 d.1 marks 0 k rows c there.within there.there (subst (λ n. death_at n marks ≡ None) zero_k f) in
         one_hit rows d deaths marks k (hits_of (map position_of rows) marks deaths)
         (subst (AreHits rows deaths (with_death k d.1.0 marks)) (others_hit (map position_of rows) d.0 k d.1.0 marks deaths there.there up) (rest (with_death k d.1.0 marks)))
-        f lt one
+        lt one
 
     go : (o : Option ℕ) → index_in (map position_of rows) d.0 ≡ o → AreHits rows (d ∷ deaths) marks (hit_at marks d.1 o ++ hits_of (map position_of rows) marks deaths)
     go None f = no_hit rows d deaths marks (hits_of (map position_of rows) marks deaths) (rest marks) (missed d.0 d.1 marks 0 rows f)
     go (Some k) f = at_row k (index_there (map position_of rows) d.0 k f) (death_at k marks) refl
 
 pub hits_mark : (rows : List Placed) (deaths : List Death) (marks : List (ℕ × ℕ)) → Climb (map position_of rows) → Climb (places_in deaths) → AreHits rows deaths marks (hits_of (map position_of rows) marks deaths)
-hits_mark rows [] marks c up = record { marked = sym (no_more (shown_from marks 0 rows)); free = tt; within = tt }
+hits_mark rows [] marks c up = record { marked = sym (no_more (shown_from marks 0 rows)); within = tt }
 hits_mark rows (d ∷ deaths) marks c up = next_hit rows d deaths marks c up.0 (λ now. hits_mark rows deaths now c up.1)
 
 -- ---- marks of so many rows
@@ -243,3 +253,58 @@ rise_climbs (x ∷ rows) up = (all x rows up.0, rise_climbs rows up.1)
     all : (x : Placed) (ys : List Placed) → AllByRecursion (PlacedBefore x) ys → AllByRecursion (λ q. x.position < q) (map position_of ys)
     all x [] h = tt
     all x (y ∷ ys) h = (h.0.lower, all x ys h.1)
+
+-- ---- marks that are prepared
+
+deaths_weaker : (n m : ℕ) (marks : List (ℕ × ℕ)) → n ≤ m → AreDeathsOf n marks → AreDeathsOf m marks
+deaths_weaker n m [] le all = tt
+deaths_weaker n m (d ∷ marks) le all = (let h = all.0 in omega arith, deaths_weaker n m marks le all.1)
+
+pub marks_weaker : (n m : ℕ) (marks : Marked) (next : Option Marked) → n ≤ m → AreMarksOf n marks next → AreMarksOf m marks next
+marks_weaker n m marks None le fit = record { now = deaths_weaker n m marks.deaths le fit.now; later = tt }
+marks_weaker n m marks (Some o) le fit = record { now = deaths_weaker n m marks.deaths le fit.now; later = deaths_weaker n m o.deaths le fit.later }
+
+next_within : (n : ℕ) (next : Option Marked) (marks : Marked) (deaths : List (ℕ × ℕ)) → deaths_next next marks ≡ deaths → AreDeathsOf n deaths → IfSome next (λ m. AreDeathsOf n m.deaths)
+next_within n None marks deaths e all = tt
+next_within n (Some m) marks deaths e all = subst (AreDeathsOf n) (sym e) all
+
+next_same : (next : Option Marked) (old new : Marked) → new.deaths ≡ old.deaths → deaths_next next new ≡ deaths_next next old
+next_same None old new e = e
+next_same (Some m) old new e = refl
+
+-- what is known of rows whose marks by some deaths are prepared
+pub record IsReady (rows : List Placed) (deaths : List Death) (old new : Marked) (next : Option Marked) : Type 0 where
+  pub same_rows : shown_from new.deaths 0 rows ≡ shown_from old.deaths 0 rows
+  pub next_rows : shown_from (deaths_next next new) 0 rows ≡ map (marked_by deaths) (shown_from old.deaths 0 rows)
+  pub fit : AreMarksOf (length rows) new next
+
+pub ready : (rows : List Placed) (positions : List ℕ) (deaths : List Death) (old new : Marked) (next : Option Marked) → positions ≡ map position_of rows → Rise rows → Climb (places_in deaths)
+    → deaths_next next old ≡ with_hits (hits_of positions old.deaths deaths) old.deaths → new.deaths ≡ old.deaths → AreDeathsOf (length rows) old.deaths → IsReady rows deaths old new next
+ready rows positions deaths old new next at up rise made same within =
+    let hits = hits_mark rows deaths old.deaths (rise_climbs rows up) rise in
+    let is : deaths_next next old ≡ with_hits (hits_of (map position_of rows) old.deaths deaths) old.deaths = made ∙ ap (λ (ps : List ℕ). with_hits (hits_of ps old.deaths deaths) old.deaths) at in
+    record {
+      same_rows = ap (λ (m : List (ℕ × ℕ)). shown_from m 0 rows) same;
+      next_rows = ap (λ (m : List (ℕ × ℕ)). shown_from m 0 rows) (next_same next old new same ∙ is) ∙ hits.marked;
+      fit = record {
+        now = subst (AreDeathsOf (length rows)) (sym same) within;
+        later = next_within (length rows) next old (with_hits (hits_of (map position_of rows) old.deaths deaths) old.deaths) is (hits_within (length rows) (hits_of (map position_of rows) old.deaths deaths) old.deaths hits.within within);
+      };
+    }
+
+-- ---- one row more
+
+pub positions_push : (rows : List Placed) (x : Placed) → map position_of (rows ++ x ∷ []) ≡ map position_of rows ++ x.position ∷ []
+positions_push [] x = refl
+positions_push (y ∷ rows) x = ap (λ l. y.position ∷ l) (positions_push rows x)
+
+none_beyond : (n k : ℕ) (marks : List (ℕ × ℕ)) → n ≤ k → AreDeathsOf n marks → death_at k marks ≡ None
+none_beyond n k [] le all = refl
+none_beyond n k (m ∷ marks) le all = ap (λ b. cond b (Some m.1) (death_at k marks)) (differs k m.0 (λ e. let h = all.0 in absurd (omega arith))) ∙ none_beyond n k marks le all.1
+
+shown_more : (marks : List (ℕ × ℕ)) (i : ℕ) (rows : List Placed) (x : Placed) → ((k : ℕ) → i + length rows ≤ k → death_at k marks ≡ None) → shown_from marks i (rows ++ x ∷ []) ≡ shown_from marks i rows ++ shown_as x None ∷ []
+shown_more marks i [] x none = ap (λ m. shown_as x m ∷ []) (none i (omega arith))
+shown_more marks i (y ∷ rows) x none = ap (λ (l : List Shown). shown_as y (death_at i marks) ∷ l) (shown_more marks (suc i) rows x (λ k le. none k (omega arith)))
+
+pub shown_push : (marks : List (ℕ × ℕ)) (rows : List Placed) (x : Placed) → AreDeathsOf (length rows) marks → shown_from marks 0 (rows ++ x ∷ []) ≡ shown_from marks 0 rows ++ shown_as x None ∷ []
+shown_push marks rows x all = shown_more marks 0 rows x (λ k le. none_beyond (length rows) k marks (omega arith) all)

@@ -136,22 +136,22 @@ homed_push places number rows pieces s all e =
 
 rows_push : (pieces : List Piece) (s : Piece) (number : ℕ) → rows_at pieces s.number ≡ None → rows_at (pieces ++ s ∷ []) number ≡ cond (nat_eq s.number number) (Some (length s.rows)) (rows_at pieces number)
 rows_push [] s number none = refl
-rows_push (t ∷ pieces) s number none = go (nat_eq t.number s.number) refl
+rows_push (t ∷ pieces) s number none = go (nat_eq t.number s.number) refl (rows_push pieces s number)
   where
     some_none : {A : Type 0} (x : A) → Some x ≡ None → ⊥
     some_none x h = cc
 
-    go : (b : Bool) → nat_eq t.number s.number ≡ b → rows_at ((t ∷ pieces) ++ s ∷ []) number ≡ cond (nat_eq s.number number) (Some (length s.rows)) (rows_at (t ∷ pieces) number)
-    go true e = absurd (some_none (length t.rows) (sym (ap (λ b. cond b (Some (length t.rows)) (rows_at pieces s.number)) e) ∙ none))
-    go false e =
-        let rest = rows_push pieces s number (sym (ap (λ b. cond b (Some (length t.rows)) (rows_at pieces s.number)) e) ∙ none) in
-        ap (cond (nat_eq t.number number) (Some (length t.rows))) rest ∙ swap (nat_eq t.number number) (nat_eq s.number number) refl refl
-      where
-        swap : (a b : Bool) → nat_eq t.number number ≡ a → nat_eq s.number number ≡ b → cond a (Some (length t.rows)) (cond b (Some (length s.rows)) (rows_at pieces number)) ≡ cond b (Some (length s.rows)) (cond a (Some (length t.rows)) (rows_at pieces number))
-        swap true true f h = absurd (eqb-false t.number s.number e (eqb-true t.number number f ∙ sym (eqb-true s.number number h)))
-        swap true false f h = refl
-        swap false true f h = refl
-        swap false false f h = refl
+    swap : (a b : Bool) → nat_eq t.number s.number ≡ false → nat_eq t.number number ≡ a → nat_eq s.number number ≡ b → cond a (Some (length t.rows)) (cond b (Some (length s.rows)) (rows_at pieces number)) ≡ cond b (Some (length s.rows)) (cond a (Some (length t.rows)) (rows_at pieces number))
+    swap true true e f h = absurd (eqb-false t.number s.number e (eqb-true t.number number f ∙ sym (eqb-true s.number number h)))
+    swap true false e f h = refl
+    swap false true e f h = refl
+    swap false false e f h = refl
+
+    go : (b : Bool) → nat_eq t.number s.number ≡ b → (rows_at pieces s.number ≡ None → rows_at (pieces ++ s ∷ []) number ≡ cond (nat_eq s.number number) (Some (length s.rows)) (rows_at pieces number)) → rows_at ((t ∷ pieces) ++ s ∷ []) number ≡ cond (nat_eq s.number number) (Some (length s.rows)) (rows_at (t ∷ pieces) number)
+    go true e rest = absurd (some_none (length t.rows) (sym (ap (λ b. cond b (Some (length t.rows)) (rows_at pieces s.number)) e) ∙ none))
+    go false e rest =
+        ap (cond (nat_eq t.number number) (Some (length t.rows))) (rest (sym (ap (λ b. cond b (Some (length t.rows)) (rows_at pieces s.number)) e) ∙ none))
+        ∙ swap (nat_eq t.number number) (nat_eq s.number number) e refl refl
 
 fits_all_push : (P : Piece → Type 0) (pieces : List Piece) (s : Piece) → AllByRecursion P pieces → P s → AllByRecursion P (pieces ++ s ∷ [])
 fits_all_push P [] s all one = (one, tt)

@@ -95,11 +95,12 @@ impl Pieces {
         ensures ok { OnOk result (self.new ≡ after_close number self.old) }
         ensures err { OnErr result (self.new ≡ self.old) }
     {
+        let rows = self.tail.len();
         self.segments.reserve(1)?;
         let fresh = Marks::new(alloc, 0)?;
         let sealed = self.tail.seal(alloc, number)?;
         let sealed = Arc::new(alloc, sealed)?;
-        self.places.add(alloc, number, self.tail.len())?;
+        self.places.add(alloc, number, rows)?;
         let marks = self.tail.clear(fresh);
         self.segments.push_reserved(SealedPiece::of(sealed, marks));
         Ok(())

@@ -6,7 +6,7 @@ ghost use Rattle.std.specs.Arc.{arc_value};
 ghost use Rattle.seg_sealed.specs.Parts.{AreDeathsOf, shown_rows};
 ghost use Rattle.row_types.specs.declared.rows.Kind.{Kind};
 ghost use Rattle.channel_pieces.specs.Pieces.{HasShape, places_of};
-ghost use Rattle.channel_pieces.specs.Fields.{Climb, places_in, readied, committed, settled, piece_of, homed, IsPiece, IsPartOfPiece};
+ghost use Rattle.channel_pieces.specs.Fields.{Climb, places_in, readied, committed, settled, piece_of, homed, IsPiece, IsPartOf, IsPartOfPiece};
 
 use crate::marking::with_deaths;
 use hybrid_time::Timestamp;
@@ -68,7 +68,7 @@ impl SealedPiece {
         if let Some(part) = &self.part {
             return part.share();
         }
-        let part = self.part_up_to(alloc, 0)?;
+        let part = new_part(alloc, &self.sealed, &mut self.marks, 0)?;
         let shared = part.share()?;
         self.part = Some(part);
         Ok(shared)
@@ -81,11 +81,7 @@ impl SealedPiece {
         ensures applied { IfOk result (λ part. part.applied ≡ applied) }
         ensures same { self.new ≡ self.old }
     {
-        let mut marks = self.marks.share(alloc)?;
-        marks.advance(applied);
-        let marks = Arc::new(alloc, marks)?;
-        let sealed = Arc::try_clone(&self.sealed)?;
-        Ok(Part::new(sealed, marks))
+        new_part(alloc, &self.sealed, &mut self.marks, applied)
     }
 
     /// Prepares the marks of some deaths, which rise by position. Want of memory leaves the piece as
@@ -99,6 +95,8 @@ impl SealedPiece {
         ensures ok { OnOk result (self.new ≡ readied deaths.now self.old) }
         ensures err { OnErr result (self.new ≡ self.old) }
     {
+        // Its contract says that positions rise.
+        let _number = self.sealed.number();
         let positions = self.sealed.positions();
         self.next = with_deaths(alloc, &mut self.marks, positions, deaths)?;
         Ok(())
@@ -113,6 +111,25 @@ impl SealedPiece {
             self.part = None;
         }
     }
+}
+
+/// A part of a segment and equal marks. Want of memory leaves the marks as they were.
+fn new_part(
+    alloc: Global,
+    sealed: &Arc<Sealed, Global>,
+    marks: &mut Marks,
+    applied: u64,
+) -> Result<Part, Memory>
+    requires { AreDeathsOf (length (arc_value sealed.now).rows) marks.old.deaths }
+    ensures part { IfOk result (IsPartOf (arc_value sealed.now) marks.old) }
+    ensures applied { IfOk result (λ part. part.applied ≡ applied) }
+    ensures same { marks.new.deaths ≡ marks.old.deaths }
+{
+    let mut shared = marks.share(alloc)?;
+    shared.advance(applied);
+    let shared = Arc::new(alloc, shared)?;
+    let sealed = Arc::try_clone(sealed)?;
+    Ok(Part::new(sealed, shared))
 }
 
 /// Prepares the marks of some deaths in all pieces. Want of memory leaves the rows as they were.

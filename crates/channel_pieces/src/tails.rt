@@ -2,7 +2,7 @@
 
 ghost use Rattle.std.specs.Prelude.{◌≡◌, ◌<◌, ◌≤◌, [], ◌∷◌, ◌++◌, length, map, None, IfOk, OnOk, OnErr};
 ghost use Rattle.std.specs.List.{AllByRecursion};
-ghost use Rattle.log_model.specs.Places.{placed, PlacedBefore};
+ghost use Rattle.log_model.specs.Places.{placed, PlacedBefore, Rise};
 ghost use Rattle.seg_sealed.specs.Segments.{IsSealed, sealed_rows};
 ghost use Rattle.seg_sealed.specs.Parts.{AreDeathsOf, shown_as, shown_from};
 ghost use Rattle.channel_pieces.specs.Pieces.{placed_of};
@@ -60,6 +60,7 @@ impl Tail {
     pub(crate) fn len(&self) -> u32
         ensures len { result ≡ length self.now.rows }
         ensures few { length self.now.rows ≤ 65536 }
+        ensures rise { Rise (map placed_of self.now.rows) }
     {
         let _dim = self.rows.dim();
         self.positions.len() as u32
@@ -133,6 +134,8 @@ impl Tail {
         ensures ok { OnOk result (self.new ≡ tail_readied deaths.now self.old) }
         ensures err { OnErr result (self.new ≡ self.old) }
     {
+        // Its contract says that positions rise.
+        let _dim = self.rows.dim();
         let positions = self.positions.as_slice();
         self.next = with_deaths(alloc, &mut self.marks, positions, deaths)?;
         Ok(())
