@@ -33,12 +33,12 @@ placement_homes places [] number e = go (fin.get places number) e
 placement_homes places (s ∷ pieces) number e =
     ⊎_elim
     (λ (same : s.number ≡ number).
-      ap (λ b. option_map (λ (m : MarkedSegment). m.homes) (cond b (Some (homed places s)) (segment_in (map (homed places) pieces) number))) (eq-eqb s.number number same)
-      ∙ ap (λ n. Some (homes_of (fin.get places n))) same
-      ∙ go (fin.get places number) (e ∙ ap (λ b. cond b (Some (length s.rows)) (rows_at pieces number)) (eq-eqb s.number number same)))
+    ap (λ b. option_map (λ (m : MarkedSegment). m.homes) (cond b (Some (homed places s)) (segment_in (map (homed places) pieces) number))) (eq-eqb s.number number same)
+    ∙ ap (λ n. Some (homes_of (fin.get places n))) same
+    ∙ go (fin.get places number) (e ∙ ap (λ b. cond b (Some (length s.rows)) (rows_at pieces number)) (eq-eqb s.number number same)))
     (λ (ne : s.number ≢ number).
-      ap (λ b. option_map (λ (m : MarkedSegment). m.homes) (cond b (Some (homed places s)) (segment_in (map (homed places) pieces) number))) (ne_eqb s.number number ne)
-      ∙ placement_homes places pieces number (e ∙ ap (λ b. cond b (Some (length s.rows)) (rows_at pieces number)) (ne_eqb s.number number ne)))
+    ap (λ b. option_map (λ (m : MarkedSegment). m.homes) (cond b (Some (homed places s)) (segment_in (map (homed places) pieces) number))) (ne_eqb s.number number ne)
+    ∙ placement_homes places pieces number (e ∙ ap (λ b. cond b (Some (length s.rows)) (rows_at pieces number)) (ne_eqb s.number number ne)))
     (cases_eq s.number number)
   where
     go : (o : Option Placement) → option_map (λ p. p.rows) o ≡ Some (length s.rows) → Some (homes_of o) ≡ option_map (λ p. p.homes) o
@@ -69,12 +69,12 @@ entry_found places [] number e = go (fin.get places number) e
 entry_found places (s ∷ pieces) number e =
     ⊎_elim
     (λ (same : s.number ≡ number).
-      ap (λ b. cond b (Some (entry_of (homed places s)).1) (fin.find nat_cmp number (map entry_of (map (homed places) pieces)))) (cmp_same s.number number (sym same))
-      ∙ ap (λ n. Some (record { rows = length s.rows; homes = homes_of (fin.get places n) })) same
-      ∙ go (fin.get places number) (e ∙ ap (λ b. cond b (Some (length s.rows)) (rows_at pieces number)) (eq-eqb s.number number same)))
+    ap (λ b. cond b (Some (entry_of (homed places s)).1) (fin.find nat_cmp number (map entry_of (map (homed places) pieces)))) (cmp_same s.number number (sym same))
+    ∙ ap (λ n. Some (record { rows = length s.rows; homes = homes_of (fin.get places n) })) same
+    ∙ go (fin.get places number) (e ∙ ap (λ b. cond b (Some (length s.rows)) (rows_at pieces number)) (eq-eqb s.number number same)))
     (λ (ne : s.number ≢ number).
-      ap (λ b. cond b (Some (entry_of (homed places s)).1) (fin.find nat_cmp number (map entry_of (map (homed places) pieces)))) (cmp_other s.number number (λ h. ne (sym h)))
-      ∙ entry_found places pieces number (e ∙ ap (λ b. cond b (Some (length s.rows)) (rows_at pieces number)) (ne_eqb s.number number ne)))
+    ap (λ b. cond b (Some (entry_of (homed places s)).1) (fin.find nat_cmp number (map entry_of (map (homed places) pieces)))) (cmp_other s.number number (λ h. ne (sym h)))
+    ∙ entry_found places pieces number (e ∙ ap (λ b. cond b (Some (length s.rows)) (rows_at pieces number)) (ne_eqb s.number number ne)))
     (cases_eq s.number number)
   where
     go : (o : Option Placement) → option_map (λ p. p.rows) o ≡ Some (length s.rows) → Some (record { rows = length s.rows; homes = homes_of o }) ≡ o
@@ -98,14 +98,14 @@ homed_changed places number change p [] is c = refl
 homed_changed places number change p (s ∷ pieces) is c =
     ⊎_elim
     (λ (same : s.number ≡ number).
-      ap₂ (λ (hs : List Home) (l : List MarkedSegment). record { number = s.number; homes = hs; rows = s.rows } ∷ l)
-      (ap (λ n. homes_of (fin.get (fin.insert places number (with_homes change p)) n)) same ∙ ap homes_of (get_same places number (with_homes change p)) ∙ ap (λ o. change (homes_of o)) (sym is) ∙ ap (λ n. change (homes_of (fin.get places n))) (sym same))
-      (homed_apart places number (with_homes change p) pieces (subst (λ n. AllByRecursion (λ m. n < m) (numbers_of pieces)) same c.0))
-      ∙ sym (ap (λ b. cond b (record { number = s.number; homes = change (homes_of (fin.get places s.number)); rows = s.rows } ∷ map (homed places) pieces) (homed places s ∷ rehomed number change (map (homed places) pieces))) (eq-eqb s.number number same)))
+    ap₂ (λ (hs : List Home) (l : List MarkedSegment). record { number = s.number; homes = hs; rows = s.rows } ∷ l)
+    (ap (λ n. homes_of (fin.get (fin.insert places number (with_homes change p)) n)) same ∙ ap homes_of (get_same places number (with_homes change p)) ∙ ap (λ o. change (homes_of o)) (sym is) ∙ ap (λ n. change (homes_of (fin.get places n))) (sym same))
+    (homed_apart places number (with_homes change p) pieces (subst (λ n. AllByRecursion (λ m. n < m) (numbers_of pieces)) same c.0))
+    ∙ sym (ap (λ b. cond b (record { number = s.number; homes = change (homes_of (fin.get places s.number)); rows = s.rows } ∷ map (homed places) pieces) (homed places s ∷ rehomed number change (map (homed places) pieces))) (eq-eqb s.number number same)))
     (λ (ne : s.number ≢ number).
-      ap₂ (λ (hs : List Home) (l : List MarkedSegment). record { number = s.number; homes = hs; rows = s.rows } ∷ l)
-      (ap homes_of (get_other places number (with_homes change p) s.number ne)) (homed_changed places number change p pieces is c.1)
-      ∙ sym (ap (λ b. cond b (record { number = s.number; homes = change (homes_of (fin.get places s.number)); rows = s.rows } ∷ map (homed places) pieces) (homed places s ∷ rehomed number change (map (homed places) pieces))) (ne_eqb s.number number ne)))
+    ap₂ (λ (hs : List Home) (l : List MarkedSegment). record { number = s.number; homes = hs; rows = s.rows } ∷ l)
+    (ap homes_of (get_other places number (with_homes change p) s.number ne)) (homed_changed places number change p pieces is c.1)
+    ∙ sym (ap (λ b. cond b (record { number = s.number; homes = change (homes_of (fin.get places s.number)); rows = s.rows } ∷ map (homed places) pieces) (homed places s ∷ rehomed number change (map (homed places) pieces))) (ne_eqb s.number number ne)))
     (cases_eq s.number number)
 
 -- the table after a change of the homes of a segment that is there

@@ -1,5 +1,5 @@
 -- Rows with their marks, and what some deaths make of them.
-use Rattle.std.proofs.Common.{◌≡◌, ◌≢◌, ℕ, zero, suc, ◌+◌, ◌<◌, ◌≤◌, nat_eq, Bool, true, false, cond, List, [], ◌∷◌, ◌++◌, length, map, take, drop, get_or, Option, Some, None, refl, sym, ap, ap₂, subst, ◌∙◌, ⊎_elim, eq-eqb, ne_eqb, arith}
+use Rattle.std.proofs.Common.{◌≡◌, ◌≢◌, ℕ, zero, suc, ◌+◌, ◌<◌, ◌≤◌, nat_eq, Bool, true, false, cond, List, [], ◌∷◌, ◌++◌, length, map, take, drop, get_or, Option, Some, None, refl, sym, ap, ap₂, subst, ◌∙◌, ⊎_elim, eq-eqb, ne_eqb, length-append, arith}
 use Rattle.std.specs.List.{AllByRecursion}
 use Rattle.std.specs.Option.{option_map, option_or, IfSome}
 use Rattle.std.specs.Map.{lookup}
@@ -13,11 +13,11 @@ use Rattle.std.proofs.lemmas.Bool.{cases_eq}
 use Rattle.hybrid_time.specs.declared.times.Timestamp.{Timestamp}
 use Rattle.log_model.specs.Places.{Placed, PlacedBefore, Rise}
 use Rattle.journal_model.specs.Views.{Shown}
-use Rattle.seg_sealed.specs.Segments.{position_of}
+use Rattle.seg_sealed.specs.Segments.{SealedSegment, position_of}
 use Rattle.seg_sealed.specs.Marks.{Marked, death_at, with_death}
-use Rattle.seg_sealed.specs.Parts.{AreDeathsOf, shown_from, shown_as}
+use Rattle.seg_sealed.specs.Parts.{SegmentPart, AreDeathsOf, shown_from, shown_as}
 use Rattle.channel_pieces.specs.Pieces.{placed_of, death_in, marked_by}
-use Rattle.channel_pieces.specs.Fields.{Climb, places_in, index_from, index_in, hit_at, unless_marked, hits_of, with_hits, AreOpen, deaths_next, AreMarksOf}
+use Rattle.channel_pieces.specs.Fields.{Climb, places_in, index_from, index_in, hit_at, unless_marked, hits_of, with_hits, AreOpen, deaths_next, AreMarksOf, KeepsTail, IsPartOf, Piece, piece_of}
 use Rattle.channel_pieces.proofs.DeathLaws.{Death, all_at, IsIndexIn, index_there, none_from}
 
 -- ---- rows without their marks
@@ -308,3 +308,21 @@ shown_more marks i (y ∷ rows) x none = ap (λ (l : List Shown). shown_as y (de
 
 pub shown_push : (marks : List (ℕ × ℕ)) (rows : List Placed) (x : Placed) → AreDeathsOf (length rows) marks → shown_from marks 0 (rows ++ x ∷ []) ≡ shown_from marks 0 rows ++ shown_as x None ∷ []
 shown_push marks rows x all = shown_more marks 0 rows x (λ k le. none_beyond (length rows) k marks (omega arith) all)
+
+pub push_keeps : (rows : List Placed) (positions : List ℕ) (marks : Marked) (next : Option Marked) (x : Placed) → KeepsTail rows positions marks next → KeepsTail (rows ++ x ∷ []) (positions ++ x.position ∷ []) marks next
+push_keeps rows positions marks next x kept = record {
+  positions_are = ap (λ l. l ++ x.position ∷ []) kept.positions_are ∙ sym (positions_push rows x);
+  marks_fit = marks_weaker (length rows) (length (rows ++ x ∷ [])) marks next (let e : length (rows ++ x ∷ []) ≡ length rows + 1 = length-append rows (x ∷ []) in omega arith) kept.marks_fit;
+}
+
+-- ---- parts
+
+pub part_same : (sealed : SealedSegment) (old new : Marked) (part : Option SegmentPart) → new.deaths ≡ old.deaths → IfSome part (IsPartOf sealed old) → IfSome part (IsPartOf sealed new)
+part_same sealed old new None e is = tt
+part_same sealed old new (Some part) e is = record { sealed_is = is.sealed_is; deaths_are = is.deaths_are ∙ sym e }
+
+abbrev made_piece : SealedSegment → List Shown → List Shown → Piece
+made_piece sealed rows next = record { number = sealed.number; dim = sealed.dim; kinds = sealed.kinds; rows = rows; next = next }
+
+pub piece_same : (sealed : SealedSegment) (old new : Marked) (next : Option Marked) → new.deaths ≡ old.deaths → piece_of sealed new next ≡ piece_of sealed old next
+piece_same sealed old new next e = ap₂ (λ (x y : List (ℕ × ℕ)). made_piece sealed (shown_from x 0 sealed.rows) (shown_from y 0 sealed.rows)) e (next_same next old new e)

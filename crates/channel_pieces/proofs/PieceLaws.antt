@@ -1,5 +1,5 @@
 -- The pieces of a channel: what each call makes of them, and what they keep.
-use Rattle.std.proofs.Common.{◌≡◌, ◌≢◌, ℕ, zero, suc, ◌+◌, ◌^◌, ◌<◌, ◌≤◌, nat_eq, Bool, true, false, not, cond, List, [], ◌∷◌, ◌++◌, length, map, take, drop, get_or, Option, Some, None, refl, sym, ap, ap₂, subst, ◌∙◌, ⊎_elim, eq-eqb, ne_eqb, length-append, arith}
+use Rattle.std.proofs.Common.{◌≡◌, ◌≢◌, ℕ, zero, suc, ◌+◌, ◌^◌, ◌<◌, ◌≤◌, nat_eq, Bool, true, false, not, cond, List, [], ◌∷◌, ◌++◌, length, map, take, drop, get_or, Option, Some, None, refl, sym, ap, ap₂, subst, ◌∙◌, ⊎_elim, eq-eqb, ne_eqb, append_assoc, append-nil, Result, Ok, Err, IfOk, OnErr, arith}
 use Rattle.std.specs.List.{AllByRecursion}
 use Rattle.std.specs.Option.{option_map, option_or, is_some, IfSome}
 use Rattle.std.specs.Ordering.{nat_cmp, eq_by_cmp}
@@ -13,10 +13,11 @@ use Rattle.log_model.specs.Places.{Placed, PlacedBefore, Rise, placed}
 use Rattle.journal_model.specs.declared.notes.Home.{Home}
 use Rattle.journal_model.specs.declared.notes.Home.TheVariants.{Leader, Node}
 use Rattle.journal_model.specs.Views.{Shown}
-use Rattle.seg_sealed.specs.Segments.{IsSealed, IsRowOf, sealed_rows, dim_of, kinds_of, kind_of}
+use Rattle.seg_sealed.specs.Segments.{SealedSegment, IsSealed, IsRowOf, sealed_rows, dim_of, kinds_of, kind_of}
+use Rattle.seg_sealed.specs.Marks.{Marked}
 use Rattle.seg_sealed.specs.Parts.{shown_from, shown_as}
-use Rattle.place_table.specs.Tables.{Placement, Table, at_leader, with_added}
-use Rattle.channel_pieces.specs.Pieces.{MarkedSegment, MarkedLayout, placed_of, marked_by, death_in, segment_marked, after_close, after_deaths}
+use Rattle.place_table.specs.Tables.{Placement, Table, at_leader, with_added, no_segments}
+use Rattle.channel_pieces.specs.Pieces.{MarkedSegment, MarkedLayout, placed_of, marked_by, death_in, segment_marked, after_close, after_deaths, places_of}
 use Rattle.channel_pieces.specs.Fields.{Climb, Piece, MarkedTail, homes_of, homed, seen, Fits, IsPiece, rows_at, numbers_of, KeepsPieces, readied, committed, settled, tail_readied, tail_committed, piece_of}
 use Rattle.channel_pieces.proofs.MarkLaws.{marked_alike}
 
@@ -247,3 +248,93 @@ homed_after places sorted deaths (s ∷ pieces) same = ap₂ (λ (rows : List Sh
 pub marked_seen : (kinds : List Kind) (tail : MarkedTail) (pieces : List Piece) (places : Table) (sorted deaths : List (ℕ × Timestamp)) → ((position : ℕ) → death_in sorted position ≡ death_in deaths position)
     → seen kinds (tail_committed (tail_readied sorted tail)) (after sorted pieces) places ≡ after_deaths deaths (seen kinds tail pieces places)
 marked_seen kinds tail pieces places sorted deaths same = ap₂ (λ (rows : List Shown) (l : List MarkedSegment). record { dim = tail.dim; kinds = kinds; nodes = places.nodes; tail = rows; segments = l }) (marked_alike sorted deaths tail.rows same) (homed_after places.segments sorted deaths pieces same)
+
+pub marking_keeps : (kinds : List Kind) (tail next : MarkedTail) (pieces after_all : List Piece) (places : Table) (sorted : List (ℕ × Timestamp)) → KeepsPieces kinds tail pieces places → next ≡ tail_committed (tail_readied sorted tail) → after_all ≡ after sorted pieces → KeepsPieces kinds next after_all places
+marking_keeps kinds tail next pieces after_all places sorted kept t p =
+    subst (λ (m : MarkedTail). KeepsPieces kinds m after_all places) (sym t) (subst (λ (l : List Piece). KeepsPieces kinds (tail_committed (tail_readied sorted tail)) l places) (sym p) (marked_keeps kinds tail pieces places sorted kept))
+
+pub marking_seen : (kinds : List Kind) (tail next : MarkedTail) (pieces after_all : List Piece) (places : Table) (sorted deaths : List (ℕ × Timestamp)) → next ≡ tail_committed (tail_readied sorted tail) → after_all ≡ after sorted pieces → ((position : ℕ) → death_in sorted position ≡ death_in deaths position)
+    → seen kinds next after_all places ≡ after_deaths deaths (seen kinds tail pieces places)
+marking_seen kinds tail next pieces after_all places sorted deaths t p same = ap₂ (λ (m : MarkedTail) (l : List Piece). seen kinds m l places) t p ∙ marked_seen kinds tail pieces places sorted deaths same
+
+abbrev made : List Kind → ℕ → ℕ → List Shown → List MarkedSegment → MarkedLayout
+made kinds nodes dim rows segments = record { dim = dim; kinds = kinds; nodes = nodes; tail = rows; segments = segments }
+
+pub same_seen : (kinds : List Kind) (tail next : MarkedTail) (xs ys : List Piece) (places : Table) → next.dim ≡ tail.dim → next.rows ≡ tail.rows → map settled ys ≡ map settled xs → seen kinds next ys places ≡ seen kinds tail xs places
+same_seen kinds tail next xs ys places dim rows e =
+    ap₂ (λ (n : ℕ) (r : List Shown). made kinds places.nodes n r (map (homed places.segments) ys)) dim rows ∙ ap (made kinds places.nodes tail.dim tail.rows) (same_homed places.segments xs ys e)
+
+-- ---- a tail that was closed
+
+-- what is known of the piece that a tail became
+pub record IsClosed (number : ℕ) (kinds : List Kind) (tail : MarkedTail) (s : Piece) : Type 0 where
+  pub number_is : s.number ≡ number
+  pub dim_is : s.dim ≡ tail.dim
+  pub kinds_are : s.kinds ≡ kinds
+  pub rows_are : s.rows ≡ tail.rows
+
+pub closed : (number : ℕ) (kinds : List Kind) (tail : MarkedTail) (sealed : SealedSegment) (marks : Marked) (s : Piece) → IsSealable number tail.dim kinds tail.rows → s ≡ piece_of sealed marks None → sealed ≡ sealed_rows number (map placed_of tail.rows)
+    → shown_from marks.deaths 0 (map placed_of tail.rows) ≡ tail.rows → IsClosed number kinds tail s
+closed number kinds tail sealed marks s able is rows shown = record {
+  number_is = ap (λ (p : Piece). p.number) is ∙ ap (λ (x : SealedSegment). x.number) rows;
+  dim_is = ap (λ (p : Piece). p.dim) is ∙ ap (λ (x : SealedSegment). x.dim) rows ∙ able.dim_is;
+  kinds_are = ap (λ (p : Piece). p.kinds) is ∙ ap (λ (x : SealedSegment). x.kinds) rows ∙ able.kinds_are;
+  rows_are = ap (λ (p : Piece). p.rows) is ∙ ap (λ (x : SealedSegment). shown_from marks.deaths 0 x.rows) rows ∙ shown;
+}
+
+-- what is known before and after
+pub record IsClosing (kinds : List Kind) (tail next : MarkedTail) (pieces : List Piece) (places : Table) (number rows : ℕ) (s : Piece) : Type 0 where
+  pub kept : KeepsPieces kinds tail pieces places
+  pub above : AllByRecursion (λ m. m.number < number) (map (homed places.segments) pieces)
+  pub dim : next.dim ≡ tail.dim
+  pub none : next.rows ≡ []
+  pub rows_are : length tail.rows ≡ rows
+  pub closed_is : IsClosed number kinds tail s
+
+pub closing_keeps : (kinds : List Kind) (tail next : MarkedTail) (pieces more : List Piece) (places after_all : Table) (number rows : ℕ) (s : Piece) → IsClosing kinds tail next pieces places number rows s → more ≡ pieces ++ s ∷ [] → after_all ≡ with_added places number rows → KeepsPieces kinds next more after_all
+closing_keeps kinds tail next pieces more places after_all number rows s h p t =
+    subst (λ (l : List Piece). KeepsPieces kinds next l after_all) (sym p) (subst (λ (m : Table). KeepsPieces kinds next (pieces ++ s ∷ []) m) (sym t)
+    (close_keeps kinds tail next pieces places number rows s h.kept h.dim h.none (below_number places.segments number pieces h.above) (none_at places.segments number pieces h.above)
+    h.closed_is.number_is h.closed_is.dim_is h.closed_is.kinds_are (ap length h.closed_is.rows_are ∙ h.rows_are)))
+
+pub closing_seen : (kinds : List Kind) (tail next : MarkedTail) (pieces more : List Piece) (places after_all : Table) (number rows : ℕ) (s : Piece) → IsClosing kinds tail next pieces places number rows s → more ≡ pieces ++ s ∷ [] → after_all ≡ with_added places number rows
+    → seen kinds next more after_all ≡ after_close number (seen kinds tail pieces places)
+closing_seen kinds tail next pieces more places after_all number rows s h p t =
+    ap₂ (λ (l : List Piece) (m : Table). seen kinds next l m) p t
+    ∙ ap₂ (λ (n : ℕ) (r : List Shown). made kinds places.nodes n r (map (homed (with_added places number rows).segments) (pieces ++ s ∷ []))) h.dim h.none
+    ∙ ap (made kinds places.nodes tail.dim []) (homed_push places.segments number rows pieces s (below_number places.segments number pieces h.above) h.closed_is.number_is
+    ∙ ap (λ (r : List Shown). map (homed places.segments) pieces ++ record { number = number; homes = Leader ∷ []; rows = r } ∷ []) h.closed_is.rows_are)
+
+-- ---- parts
+
+pub if_ok : {T E : Type 0} (r : Result T E) (P Q : T → Type 0) → ((x : T) → P x → Q x) → IfOk r P → IfOk r Q
+if_ok (Ok x) P Q f p = f x p
+if_ok (Err e) P Q f p = tt
+
+pub if_err : {T E : Type 0} (r : Result T E) (P : Type 0) → P → OnErr r P
+if_err (Ok x) P p = tt
+if_err (Err e) P p = p
+
+pub places_more : (places : Places) (pieces : List Piece) (i : ℕ) (s : Piece) → i < length pieces → get_or pieces i s ≡ s → places_of (map (homed places) (take i pieces)) ++ map (λ home. s.rows) (homed places s).homes ≡ places_of (map (homed places) (take (i + 1) pieces))
+places_more places [] i s lt is = absurd (omega arith)
+places_more places (p ∷ pieces) zero s lt is = ap (λ (q : Piece). map (λ home. q.rows) (homed places q).homes) (sym is) ∙ sym (append-nil (map (λ home. p.rows) (homed places p).homes))
+places_more places (p ∷ pieces) (suc i) s lt is =
+    let e : suc i + 1 ≡ suc (i + 1) = omega arith in
+    append_assoc (map (λ home. p.rows) (homed places p).homes) (places_of (map (homed places) (take i pieces))) (map (λ home. s.rows) (homed places s).homes)
+    ∙ ap (λ l. map (λ home. p.rows) (homed places p).homes ++ l) (places_more places pieces i s (omega arith) is)
+    ∙ ap (λ n. places_of (map (homed places) (take n (p ∷ pieces)))) (sym e)
+
+pub fits_at : (P : Piece → Type 0) (pieces : List Piece) (i : ℕ) (s : Piece) → AllByRecursion P pieces → i < length pieces → get_or pieces i s ≡ s → P s
+fits_at P [] i s all lt is = absurd (omega arith)
+fits_at P (p ∷ pieces) zero s all lt is = subst P is all.0
+fits_at P (p ∷ pieces) (suc i) s all lt is = fits_at P pieces i s all.1 (omega arith) is
+
+pub new_keeps : (dim : ℕ) (kinds : List Kind) (nodes : ℕ) (tail : MarkedTail) (pieces : List Piece) (places : Table) → IsDimension dim → length kinds ≤ 16 → tail.dim ≡ dim → tail.rows ≡ [] → pieces ≡ [] → places ≡ no_segments nodes → KeepsPieces kinds tail pieces places
+new_keeps dim kinds nodes tail pieces places is width d none empty e = record {
+  dim = subst IsDimension (sym d) is;
+  width = width;
+  tail_fits = subst (AllByRecursion (Fits tail.dim kinds)) (sym none) tt;
+  pieces_fit = subst (AllByRecursion (IsPiece tail.dim kinds)) (sym empty) tt;
+  rise = subst (λ (l : List Piece). Climb (numbers_of l)) (sym empty) tt;
+  placed = λ k. ap (λ (t : Table). option_map (λ p. p.rows) (fin.get t.segments k)) e ∙ ap (option_map (λ p. p.rows)) (fin.get-empty nat_cmp k) ∙ ap (λ (l : List Piece). rows_at l k) (sym empty);
+}

@@ -169,12 +169,26 @@ pub(crate) fn parts_of(
 {
     let mut parts = Vec::with_capacity(alloc, pieces.len())?;
     'pieces: for i in 0..pieces.len() {
-        let piece = &mut pieces[i];
-        if let Some(homes) = places.homes(piece.number()) {
-            place_all(alloc, piece, homes, &mut parts)?;
-        }
+        place_piece(alloc, &mut pieces[i], places, &mut parts)?;
     }
     Ok(parts)
+}
+
+/// A part of a piece for each of its homes.
+fn place_piece(
+    alloc: Global,
+    piece: &mut SealedPiece,
+    places: &Places,
+    parts: &mut Vec<Part>,
+) -> Result<(), Memory>
+    ensures rows { OnOk result (map shown_rows parts.new.items ≡ map shown_rows parts.old.items ++ map (λ home. piece.old.rows) (homed places.now.segments piece.old).homes) }
+    ensures shapes { OnOk result ((dim : ℕ) (kinds : List Kind) → IsPiece dim kinds piece.old → AllByRecursion (HasShape dim kinds) parts.old.items → AllByRecursion (HasShape dim kinds) parts.new.items) }
+    ensures same { piece.new ≡ piece.old }
+{
+    match places.homes(piece.number()) {
+        Some(homes) => place_all(alloc, piece, homes, parts),
+        None => Ok(()),
+    }
 }
 
 /// A part of a piece for each of some homes.

@@ -8,7 +8,7 @@ use Rattle.channel_pieces.proofs.sealed_pieces.place_all.Given as goal
 
 abbrev pub invariant-homes : goal.invariant-homes
 invariant-homes l = record {
-  rows : map shown_rows l.parts.items ≡ map shown_rows l.initial.parts.items ++ map (λ home. l.initial.piece.rows) (take l.home-index l.homes);
+  rows : map shown_rows l.parts.items ≡ map shown_rows l.initial.parts.items ++ map (λ home. l.initial.piece.rows) (take l.index l.homes);
   shapes : (dim : ℕ) (kinds : List Kind) → IsPiece dim kinds l.initial.piece → AllByRecursion (HasShape dim kinds) l.initial.parts.items → AllByRecursion (HasShape dim kinds) l.parts.items;
   same : l.piece ≡ l.initial.piece;
 }
