@@ -1,6 +1,7 @@
 -- The pieces of a channel: what each call makes of them, and what they keep.
-use Rattle.std.proofs.Common.{◌≡◌, ◌≢◌, ℕ, zero, suc, ◌+◌, ◌^◌, ◌<◌, ◌≤◌, nat_eq, Bool, true, false, not, cond, List, [], ◌∷◌, ◌++◌, length, map, take, drop, get_or, Option, Some, None, refl, sym, ap, ap₂, subst, ◌∙◌, ⊎_elim, eq-eqb, ne_eqb, append_assoc, append-nil, Result, Ok, Err, IfOk, OnErr, arith}
-use Rattle.std.specs.List.{AllByRecursion}
+use Rattle.std.proofs.Common.{◌≡◌, ◌≢◌, ℕ, zero, suc, ◌+◌, ◌^◌, ◌<◌, ◌≤◌, nat_eq, nat_lt, Bool, true, false, not, cond, List, [], ◌∷◌, ◌++◌, length, map, take, drop, get_or, Option, Some, None, refl, sym, ap, ap₂, subst, ◌∙◌, ⊎_elim, eq-eqb, ne_eqb, append_assoc, append-nil, Result, Ok, Err, IfOk, OnErr, arith}
+use Rattle.std.specs.List.{AllByRecursion, filter}
+use Rattle.std.specs.List.Sorted.{IsNonDecreasingBy}
 use Rattle.std.specs.Option.{option_map, option_or, is_some, IfSome}
 use Rattle.std.specs.Ordering.{nat_cmp, eq_by_cmp}
 use Rattle.std.specs.Cmp.{nat_cmp_total, eq_by_cmp_equiv, Equal-is}
@@ -15,9 +16,9 @@ use Rattle.journal_model.specs.declared.notes.Home.TheVariants.{Leader, Node}
 use Rattle.journal_model.specs.Views.{Shown}
 use Rattle.seg_sealed.specs.Segments.{SealedSegment, IsSealed, IsRowOf, sealed_rows, dim_of, kinds_of, kind_of}
 use Rattle.seg_sealed.specs.Marks.{Marked}
-use Rattle.seg_sealed.specs.Parts.{shown_from, shown_as}
+use Rattle.seg_sealed.specs.Parts.{SegmentPart, shown_from, shown_as, shown_rows}
 use Rattle.place_table.specs.Tables.{Placement, Table, at_leader, with_added, no_segments}
-use Rattle.channel_pieces.specs.Pieces.{MarkedSegment, MarkedLayout, placed_of, marked_by, death_in, segment_marked, after_close, after_deaths, places_of}
+use Rattle.channel_pieces.specs.Pieces.{MarkedSegment, MarkedLayout, placed_of, marked_by, death_in, segment_marked, after_close, after_deaths, segment_in, is_at, numbers_at, places_of}
 use Rattle.channel_pieces.specs.Fields.{Climb, Piece, MarkedTail, homes_of, homed, seen, Fits, IsPiece, rows_at, numbers_of, KeepsPieces, readied, committed, settled, tail_readied, tail_committed, piece_of}
 use Rattle.channel_pieces.proofs.MarkLaws.{marked_alike}
 
@@ -169,14 +170,14 @@ close_keeps kinds tail next pieces places number rows s kept dim none below abse
   pieces_fit = subst (λ (n : ℕ). AllByRecursion (IsPiece n kinds) (pieces ++ s ∷ [])) (sym dim) (fits_all_push (IsPiece tail.dim kinds) pieces s kept.pieces_fit (record { dim_is = dim_is; kinds_are = kinds_are }));
   rise = subst Climb (sym (numbers-push pieces s ∙ ap (λ (n : ℕ). numbers_of pieces ++ n ∷ []) number_is)) (climb_push (numbers_of pieces) number kept.rise below);
   placed = λ k. ⊎_elim
-    (λ (e : k ≡ number).
+      (λ (e : k ≡ number).
       ap (λ n. option_map (λ p. p.rows) (fin.get (fin.insert places.segments number (at_leader rows)) n)) e ∙ ap (option_map (λ p. p.rows)) (get_same places.segments number (at_leader rows))
       ∙ ap (λ n. Some n) (sym rows_are)
       ∙ sym (rows_push pieces s k (ap (rows_at pieces) number_is ∙ absent_one) ∙ ap (λ b. cond b (Some (length s.rows)) (rows_at pieces k)) (eq-eqb s.number k (number_is ∙ sym e))))
-    (λ (ne : k ≢ number).
+      (λ (ne : k ≢ number).
       ap (option_map (λ p. p.rows)) (get_other places.segments number (at_leader rows) k ne) ∙ kept.placed k
       ∙ sym (rows_push pieces s k (ap (rows_at pieces) number_is ∙ absent_one) ∙ ap (λ b. cond b (Some (length s.rows)) (rows_at pieces k)) (ne_eqb s.number k (λ e. ne (sym e ∙ number_is)))))
-    (cases_eq k number);
+      (cases_eq k number);
 }
 
 -- ---- pieces that are the same but for what is prepared
@@ -338,3 +339,99 @@ new_keeps dim kinds nodes tail pieces places is width d none empty e = record {
   rise = subst (λ (l : List Piece). Climb (numbers_of l)) (sym empty) tt;
   placed = λ k. ap (λ (t : Table). option_map (λ p. p.rows) (fin.get t.segments k)) e ∙ ap (option_map (λ p. p.rows)) (fin.get-empty nat_cmp k) ∙ ap (λ (l : List Piece). rows_at l k) (sym empty);
 }
+
+pub parts_push : (parts old : List SegmentPart) (homes : List Home) (k : ℕ) (rows : List Shown) (part : SegmentPart) (home : Home) → map shown_rows parts ≡ map shown_rows old ++ map (λ (h : Home). rows) (take k homes) → k < length homes → shown_rows part ≡ rows
+    → map shown_rows (parts ++ part ∷ []) ≡ map shown_rows old ++ map (λ (h : Home). rows) (take (k + 1) homes)
+parts_push parts old homes k rows part home done lt is =
+    shown_append parts
+    ∙ ap₂ (λ (l : List (List Shown)) (r : List Shown). l ++ r ∷ []) done is
+    ∙ append_assoc (map shown_rows old) (map (λ (h : Home). rows) (take k homes)) (rows ∷ [])
+    ∙ ap (λ (l : List (List Shown)). map shown_rows old ++ l) (homes_more homes k lt)
+  where
+    shown_append : (xs : List SegmentPart) → map shown_rows (xs ++ part ∷ []) ≡ map shown_rows xs ++ shown_rows part ∷ []
+    shown_append [] = refl
+    shown_append (x ∷ xs) = ap (λ (l : List (List Shown)). shown_rows x ∷ l) (shown_append xs)
+
+    homes_more : (hs : List Home) (j : ℕ) → j < length hs → map (λ (h : Home). rows) (take j hs) ++ rows ∷ [] ≡ map (λ (h : Home). rows) (take (j + 1) hs)
+    homes_more [] j h = absurd (omega arith)
+    homes_more (g ∷ hs) zero h = refl
+    homes_more (g ∷ hs) (suc j) h = ap (λ (l : List (List Shown)). rows ∷ l) (homes_more hs j (omega arith)) ∙ ap (λ n. map (λ (h : Home). rows) (take n (g ∷ hs))) (let e : suc (j + 1) ≡ suc j + 1 = omega arith in e)
+
+pub all_push : {X : Type 0} (P : X → Type 0) (xs : List X) (x : X) → AllByRecursion P xs → P x → AllByRecursion P (xs ++ x ∷ [])
+all_push P [] x all one = (one, tt)
+all_push P (y ∷ xs) x all one = (all.0, all_push P xs x all.1 one)
+
+-- ---- looking a piece up
+
+pub pieces_order : (pieces : List Piece) → Climb (numbers_of pieces) → IsNonDecreasingBy (λ (s : Piece). s.number) pieces
+pieces_order [] c i j d le lt = absurd (omega arith)
+pieces_order (s ∷ pieces) c zero zero d le lt = omega arith
+pieces_order (s ∷ pieces) c zero (suc j) d le lt = let h = above s.number pieces j c.0 (omega arith) in omega arith
+  where
+    above : (n : ℕ) (ps : List Piece) (k : ℕ) → AllByRecursion (λ q. n < q) (numbers_of ps) → k < length ps → n < (get_or ps k d).number
+    above n [] k all h = absurd (omega arith)
+    above n (p ∷ ps) zero all h = all.0
+    above n (p ∷ ps) (suc k) all h = above n ps k all.1 (omega arith)
+pieces_order (s ∷ pieces) c (suc i) zero d le lt = absurd (omega arith)
+pieces_order (s ∷ pieces) c (suc i) (suc j) d le lt = pieces_order pieces c.1 i j d (omega arith) (omega arith)
+
+pub numbers_below : (pieces : List Piece) (n number : ℕ) → n ≤ length pieces → ((k : ℕ) (d : Piece) → k < n → nat_lt (get_or pieces k d).number number ≡ true) → AllByRecursion (λ s. s.number < number) (take n pieces)
+numbers_below pieces zero number le h = tt
+numbers_below [] (suc n) number le h = tt
+numbers_below (s ∷ pieces) (suc n) number le h = (let f = h 0 s (omega arith) in is_below s.number number f, numbers_below pieces n number (omega arith) (λ k d lt. h (suc k) d (omega arith)))
+  where
+    is_below : (a b : ℕ) → nat_lt a b ≡ true → a < b
+    is_below a b f = grind arith
+
+rows_above : (pieces : List Piece) (number low : ℕ) → number < low → AllByRecursion (λ n. low < n) (numbers_of pieces) → rows_at pieces number ≡ None
+rows_above [] number low lt all = refl
+rows_above (s ∷ pieces) number low lt all = ap (λ b. cond b (Some (length s.rows)) (rows_at pieces number)) (ne_eqb s.number number (λ e. let h = all.0 in absurd (omega arith))) ∙ rows_above pieces number low lt all.1
+
+pub rows_missing : (pieces : List Piece) (at number : ℕ) (d : Piece) → AllByRecursion (λ s. s.number < number) (take at pieces) → (at < length pieces → number < (get_or pieces at d).number) → Climb (numbers_of pieces) → rows_at pieces number ≡ None
+rows_missing [] at number d below here c = refl
+rows_missing (s ∷ pieces) zero number d below here c =
+    let lt : number < s.number = here (omega arith) in
+    ap (λ b. cond b (Some (length s.rows)) (rows_at pieces number)) (ne_eqb s.number number (λ e. absurd (omega arith))) ∙ rows_above pieces number s.number lt c.0
+rows_missing (s ∷ pieces) (suc at) number d below here c =
+    ap (λ b. cond b (Some (length s.rows)) (rows_at pieces number)) (ne_eqb s.number number (λ e. let h = below.0 in absurd (omega arith))) ∙ rows_missing pieces at number d below.1 (λ lt. here (omega arith)) c.1
+
+pub segment_missing : (places : Places) (pieces : List Piece) (number : ℕ) → rows_at pieces number ≡ None → segment_in (map (homed places) pieces) number ≡ None
+segment_missing places [] number e = refl
+segment_missing places (s ∷ pieces) number e = go (nat_eq s.number number) refl (segment_missing places pieces number)
+  where
+    some_none : {A : Type 0} (x : A) → Some x ≡ None → ⊥
+    some_none x h = cc
+
+    go : (b : Bool) → nat_eq s.number number ≡ b → (rows_at pieces number ≡ None → segment_in (map (homed places) pieces) number ≡ None) → segment_in (map (homed places) (s ∷ pieces)) number ≡ None
+    go true f rest = absurd (some_none (length s.rows) (sym (ap (λ b. cond b (Some (length s.rows)) (rows_at pieces number)) f) ∙ e))
+    go false f rest = ap (λ b. cond b (Some (homed places s)) (segment_in (map (homed places) pieces) number)) f ∙ rest (sym (ap (λ b. cond b (Some (length s.rows)) (rows_at pieces number)) f) ∙ e)
+
+pub segment_found : (places : Places) (pieces : List Piece) (at number : ℕ) (s : Piece) → Climb (numbers_of pieces) → at < length pieces → get_or pieces at s ≡ s → s.number ≡ number → segment_in (map (homed places) pieces) number ≡ Some (homed places s)
+segment_found places [] at number s c lt is e = absurd (omega arith)
+segment_found places (p ∷ pieces) zero number s c lt is e = ap (λ b. cond b (Some (homed places p)) (segment_in (map (homed places) pieces) number)) (eq-eqb p.number number (ap (λ (q : Piece). q.number) is ∙ e)) ∙ ap (λ (q : Piece). Some (homed places q)) is
+segment_found places (p ∷ pieces) (suc at) number s c lt is e =
+    let h = above p.number pieces at c.0 (omega arith) in
+    let g : (get_or pieces at s).number ≡ number = ap (λ (q : Piece). q.number) is ∙ e in
+    ap (λ b. cond b (Some (homed places p)) (segment_in (map (homed places) pieces) number)) (ne_eqb p.number number (λ f. absurd (omega arith))) ∙ segment_found places pieces at number s c.1 (omega arith) is e
+  where
+    above : (n : ℕ) (ps : List Piece) (k : ℕ) → AllByRecursion (λ q. n < q) (numbers_of ps) → k < length ps → n < (get_or ps k s).number
+    above n [] k all h = absurd (omega arith)
+    above n (q ∷ ps) zero all h = all.0
+    above n (q ∷ ps) (suc k) all h = above n ps k all.1 (omega arith)
+
+pub numbers_more : (places : Places) (home : Home) (pieces : List Piece) (k : ℕ) (s : Piece) → k < length pieces → get_or pieces k s ≡ s → numbers_at home (map (homed places) (take (k + 1) pieces)) ≡ numbers_at home (map (homed places) (take k pieces)) ++ cond (is_at home (homed places s)) (s.number ∷ []) []
+numbers_more places home [] k s lt is = absurd (omega arith)
+numbers_more places home (p ∷ pieces) zero s lt is = ap (λ (q : Piece). numbers_at home (homed places q ∷ [])) is ∙ one (is_at home (homed places s))
+  where
+    one : (b : Bool) → map (λ (m : MarkedSegment). m.number) (cond b (homed places s ∷ []) []) ≡ cond b (s.number ∷ []) []
+    one true = refl
+    one false = refl
+numbers_more places home (p ∷ pieces) (suc k) s lt is =
+    let e : suc k + 1 ≡ suc (k + 1) = omega arith in
+    ap (λ n. numbers_at home (map (homed places) (take n (p ∷ pieces)))) e ∙ step (is_at home (homed places p)) (numbers_more places home pieces k s (omega arith) is)
+  where
+    step : (b : Bool) → numbers_at home (map (homed places) (take (k + 1) pieces)) ≡ numbers_at home (map (homed places) (take k pieces)) ++ cond (is_at home (homed places s)) (s.number ∷ []) []
+        → map (λ (m : MarkedSegment). m.number) (cond b (homed places p ∷ filter (is_at home) (map (homed places) (take (k + 1) pieces))) (filter (is_at home) (map (homed places) (take (k + 1) pieces))))
+        ≡ map (λ (m : MarkedSegment). m.number) (cond b (homed places p ∷ filter (is_at home) (map (homed places) (take k pieces))) (filter (is_at home) (map (homed places) (take k pieces)))) ++ cond (is_at home (homed places s)) (s.number ∷ []) []
+    step true rest = ap (λ l. p.number ∷ l) rest
+    step false rest = rest

@@ -6,6 +6,7 @@
 //! and leaves it as it was; parts and tails that were given to a reader never change.
 #![tactic(auto)]
 
+mod finds;
 mod marking;
 mod pieces;
 mod sealed_pieces;

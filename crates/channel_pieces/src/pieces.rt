@@ -11,8 +11,8 @@ ghost use Rattle.seg_sealed.specs.Segments.{IsRowOf};
 ghost use Rattle.seg_sealed.specs.Parts.{shown_from, shown_rows};
 ghost use Rattle.place_table.specs.Tables.{IsChosen};
 ghost use Rattle.channel_pieces.specs.Pieces.{no_pieces, placed_of, with_row, after_close, AreOnce, after_deaths, segment_in, with_homes, is_at, is_elsewhere, numbers_at, table_of, places_of, HasShape, on_nodes, is_unmarked, rows_in};
-ghost use Rattle.channel_pieces.specs.Fields.{rows_at};
 
+use crate::finds::{find, numbers_with};
 use crate::marking::by_position;
 use crate::sealed_pieces::{SealedPiece, commit_all, parts_of, prepare_all};
 use crate::tails::Tail;
@@ -139,5 +139,84 @@ impl Pieces {
         ensures same { self.new ≡ self.old }
     {
         parts_of(alloc, &mut self.segments, &self.places)
+    }
+
+    /// Where a segment stands: at its leader, or on nodes; `None` exactly where it is not there.
+    pub fn homes(&self, number: u64) -> Option<&[Home]>
+        ensures homes { option_map (λ homes. homes.now) result ≡ option_map (λ s. s.homes) (segment_in self.now.segments number) }
+        ensures placed { IfSome result (λ homes. 0 < length homes.now) }
+    {
+        self.places.homes(number)
+    }
+
+    /// A part of a segment, which says that deaths are marked up to a position; `None` exactly where the
+    /// segment is not there. Want of memory leaves the pieces as they were.
+    pub fn part(&mut self, alloc: Global, number: u64, applied: u64) -> Result<Option<Part>, Memory>
+        ensures rows { IfOk result (λ found. option_map shown_rows found ≡ option_map (λ s. s.rows) (segment_in self.old.segments number)) }
+        ensures part { IfOk result (λ found. IfSome found (λ part. part.sealed.number ≡ number)) }
+        ensures shape { IfOk result (λ found. IfSome found (HasShape self.old.dim self.old.kinds)) }
+        ensures applied { IfOk result (λ found. IfSome found (λ part. part.applied ≡ applied)) }
+        ensures same { self.new ≡ self.old }
+    {
+        let Some(at) = find(self.segments.as_slice(), number) else {
+            return Ok(None);
+        };
+        let piece = &mut self.segments[at];
+        let part = piece.part_up_to(alloc, applied)?;
+        Ok(Some(part))
+    }
+
+    /// Adds a node to the homes of a segment that is there and not on it, and takes the leader's place
+    /// away. Want of memory leaves the pieces as they were.
+    pub fn load(&mut self, number: u64, node: u32) -> Result<(), Memory>
+        requires node { node < self.old.nodes }
+        requires elsewhere { option_map (is_at (Node node)) (segment_in self.old.segments number) ≡ Some false }
+        ensures ok { OnOk result (self.new ≡ with_homes number (homes_after_load node) self.old) }
+        ensures err { OnErr result (self.new ≡ self.old) }
+    {
+        match self.places.load(number, node) {
+            Ok(()) => Ok(()),
+            Err(_) => Err(Memory),
+        }
+    }
+
+    /// Takes a node from the homes of a segment that is there, on this node and elsewhere; takes no
+    /// memory.
+    pub fn release(&mut self, number: u64, node: u32)
+        requires node { node < self.old.nodes }
+        requires there { option_map (is_at (Node node)) (segment_in self.old.segments number) ≡ Some true }
+        requires more { option_map (is_elsewhere (Node node)) (segment_in self.old.segments number) ≡ Some true }
+        ensures { self.new ≡ with_homes number (homes_after_release node) self.old }
+    {
+        match self.places.release(number, node) {
+            Ok(()) => {}
+            Err(_) => unreachable!(),
+        }
+    }
+
+    /// The node with the fewest rows, and of several such nodes the least; takes no memory.
+    pub fn choose_node(&self) -> u32
+        ensures { IsChosen (table_of self.now) result }
+    {
+        self.places.choose_node()
+    }
+
+    /// The numbers of the segments that wait at the leader, rising.
+    pub fn waiting(&self, alloc: Global) -> Result<Vec<u64>, Memory>
+        ensures { IfOk result (λ numbers. numbers.items ≡ numbers_at Leader self.now.segments) }
+    {
+        numbers_with(alloc, self.segments.as_slice(), &self.places, Home::Leader)
+    }
+
+    /// The numbers of the segments on a node, rising.
+    pub fn on_node(&self, alloc: Global, node: u32) -> Result<Vec<u64>, Memory>
+        ensures { IfOk result (λ numbers. numbers.items ≡ numbers_at (Node node) self.now.segments) }
+    {
+        numbers_with(
+            alloc,
+            self.segments.as_slice(),
+            &self.places,
+            Home::Node(node),
+        )
     }
 }

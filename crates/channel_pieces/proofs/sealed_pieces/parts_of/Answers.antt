@@ -14,8 +14,8 @@ pieces-preserved c =
     let lt : c.pieces.i < length c.args.pieces.now.items = search rules in
     record {
       rows = c.in_ok-place_piece.ensures.rows
-      ∙ ap (λ (l : List (List Shown)). l ++ map (λ (home : Home). c.index_mut.result.now.rows) (homed c.args.places.now.segments c.index_mut.result.now).homes) c.pieces.invariant.rows
-      ∙ places_more c.args.places.now.segments c.args.pieces.now.items c.pieces.i c.index_mut.result.now lt was;
+          ∙ ap (λ (l : List (List Shown)). l ++ map (λ (home : Home). c.index_mut.result.now.rows) (homed c.args.places.now.segments c.index_mut.result.now).homes) c.pieces.invariant.rows
+          ∙ places_more c.args.places.now.segments c.args.pieces.now.items c.pieces.i c.index_mut.result.now lt was;
       shapes = λ dim kinds all. c.in_ok-place_piece.ensures.shapes dim kinds (fits_at (IsPiece dim kinds) c.args.pieces.now.items c.pieces.i c.index_mut.result.now all lt was) (c.pieces.invariant.shapes dim kinds all);
       same = ap (slice_set c.pieces.pieces.items c.pieces.i) c.in_ok-place_piece.ensures.same ∙ set_same c.pieces.pieces.items c.pieces.i c.index_mut.result.now at ∙ c.pieces.invariant.same;
     }
