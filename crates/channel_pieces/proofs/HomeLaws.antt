@@ -1,6 +1,6 @@
 -- The homes of pieces in the table of places.
-use Rattle.std.proofs.Common.{◌≡◌, ◌≢◌, ℕ, suc, ◌+◌, ◌<◌, ◌≤◌, nat_eq, Bool, true, false, cond, List, [], ◌∷◌, ◌++◌, length, map, Option, Some, None, refl, sym, ap, ap₂, subst, ◌∙◌, ⊎_elim, eq-eqb, ne_eqb, arith}
-use Rattle.std.specs.List.{AllByRecursion}
+use Rattle.std.proofs.Common.{◌≡◌, ◌≢◌, ℕ, suc, ◌+◌, ◌<◌, ◌≤◌, nat_eq, Bool, true, false, not, cond, List, [], ◌∷◌, ◌++◌, length, map, Option, Some, None, refl, sym, ap, ap₂, subst, ◌∙◌, ⊎_elim, eq-eqb, ne_eqb, arith}
+use Rattle.std.specs.List.{AllByRecursion, list_any}
 use Rattle.std.specs.Option.{option_map, IfSome}
 use Rattle.std.specs.Ordering.{nat_cmp, eq_by_cmp}
 use Rattle.std.specs.Cmp.{nat_cmp_total, eq_by_cmp_equiv, Equal-is}
@@ -8,10 +8,14 @@ use Rattle.std.specs.FinMap as fin
 use Rattle.std.proofs.lemmas.Bool.{cases_eq}
 use Rattle.row_types.specs.declared.rows.Kind.{Kind}
 use Rattle.journal_model.specs.declared.notes.Home.{Home}
+use Rattle.journal_model.specs.declared.notes.Home.TheVariants.{Node}
+use Rattle.journal_model.specs.Layouts.{is_home}
 use Rattle.journal_model.specs.Views.{Shown}
-use Rattle.place_table.specs.Tables.{Placement, Table, with_homes, with_segments, rehomed_at}
+use Rattle.place_table.specs.declared.refusals.PlaceError.TheVariants.{NotThere, LastPlace}
+use Rattle.place_table.specs.Tables.{Placement, Table, with_homes, with_segments, rehomed_at, release_refused, last_refused}
 use Rattle.place_table.specs.Tables.{rehomed as rehomed_table}
-use Rattle.channel_pieces.specs.Pieces.{MarkedSegment, segment_in, rehomed, table_of}
+use Rattle.channel_pieces.specs.Pieces.{MarkedSegment, MarkedLayout, segment_in, rehomed, table_of}
+use Rattle.channel_pieces.specs.Pieces.{with_homes as change_homes}
 use Rattle.channel_pieces.specs.Fields.{Climb, Piece, MarkedTail, homes_of, homed, seen, rows_at, numbers_of, KeepsPieces}
 use Rattle.channel_pieces.proofs.PieceLaws.{Places, get_same, get_other}
 
@@ -137,3 +141,44 @@ rehomes kinds tail pieces places number change p kept is =
         (λ (h : k ≡ number). ap (λ n. option_map (λ p. p.rows) (fin.get (fin.insert places.segments number (with_homes change p)) n)) h ∙ ap (option_map (λ p. p.rows)) (get_same places.segments number (with_homes change p)) ∙ sym (ap (λ n. option_map (λ p. p.rows) (fin.get places.segments n)) h ∙ ap (option_map (λ p. p.rows)) is))
         (λ (ne : k ≢ number). ap (option_map (λ p. p.rows)) (get_other places.segments number (with_homes change p) k ne))
         (cases_eq k number)
+
+-- ---- a segment that is there
+
+-- what is known of the placement of a segment of which a test of its homes is known
+pub record IsPlacedSo (places : Places) (number : ℕ) (test : List Home → Bool) (b : Bool) : Type 0 where
+  pub placement : Placement
+  pub is : fin.get places number ≡ Some placement
+  pub so : test placement.homes ≡ b
+
+pub placed_so : (places : Places) (pieces : List Piece) (number : ℕ) (test : List Home → Bool) (b : Bool) → option_map (λ p. p.rows) (fin.get places number) ≡ rows_at pieces number → option_map (λ s. test s.homes) (segment_in (map (homed places) pieces) number) ≡ Some b → IsPlacedSo places number test b
+placed_so places pieces number test b e h = go (fin.get places number) refl (twice (segment_in (map (homed places) pieces) number) ∙ h)
+  where
+    twice : (o : Option MarkedSegment) → option_map test (option_map (λ s. s.homes) o) ≡ option_map (λ s. test s.homes) o
+    twice None = refl
+    twice (Some s) = refl
+
+    go : (o : Option Placement) → fin.get places number ≡ o → option_map test (option_map (λ (s : MarkedSegment). s.homes) (segment_in (map (homed places) pieces) number)) ≡ Some b → IsPlacedSo places number test b
+    go None f g = absurd (some_none b (sym g ∙ ap (option_map test) (placement_homes places pieces number e ∙ ap (option_map (λ p. p.homes)) f)))
+    go (Some p) f g = record { placement = p; is = f; so = some_same (test p.homes) b (sym (ap (option_map test) (placement_homes places pieces number e ∙ ap (option_map (λ p. p.homes)) f)) ∙ g) }
+
+pub release_free : (places : Places) (number node : ℕ) → IsPlacedSo places number (list_any (is_home (Node node))) true → IsPlacedSo places number (list_any (λ other. not (is_home (Node node) other))) true → release_refused number node (fin.get places number) ≡ None
+release_free places number node on more =
+    let p = on.placement in
+    let same : more.placement ≡ p = some_same more.placement p (sym more.is ∙ on.is) in
+    let elsewhere : list_any (λ (other : Home). not (is_home (Node node) other)) p.homes ≡ true = ap (λ (q : Placement). list_any (λ (other : Home). not (is_home (Node node) other)) q.homes) (sym same) ∙ more.so in
+    ap (release_refused number node) on.is
+    ∙ ap (λ b. cond b (last_refused number node p) (Some (NotThere number node))) on.so
+    ∙ ap (λ b. cond b None (Some (LastPlace number))) elsewhere
+
+-- ---- a change of homes as a whole
+
+abbrev seen_with : List Kind → MarkedTail → ℕ → List MarkedSegment → MarkedLayout
+seen_with kinds tail nodes segments = record { dim = tail.dim; kinds = kinds; nodes = nodes; tail = tail.rows; segments = segments }
+
+pub change_keeps : (kinds : List Kind) (tail : MarkedTail) (pieces : List Piece) (places after : Table) (number : ℕ) (change : List Home → List Home) (test : List Home → Bool) (b : Bool) → KeepsPieces kinds tail pieces places → IsPlacedSo places.segments number test b
+    → after ≡ with_segments places (rehomed_table number change places.segments) → KeepsPieces kinds tail pieces after
+change_keeps kinds tail pieces places after number change test b kept h e = subst (KeepsPieces kinds tail pieces) (sym e) (rehomes kinds tail pieces places number change h.placement kept h.is).keeps
+
+pub change_seen : (kinds : List Kind) (tail : MarkedTail) (pieces : List Piece) (places after : Table) (number : ℕ) (change : List Home → List Home) (test : List Home → Bool) (b : Bool) → KeepsPieces kinds tail pieces places → IsPlacedSo places.segments number test b
+    → after ≡ with_segments places (rehomed_table number change places.segments) → seen kinds tail pieces after ≡ change_homes number change (seen kinds tail pieces places)
+change_seen kinds tail pieces places after number change test b kept h e = ap (seen kinds tail pieces) e ∙ ap (seen_with kinds tail places.nodes) (rehomes kinds tail pieces places number change h.placement kept h.is).seen_is

@@ -25,3 +25,8 @@ pub set_same : {X : Type 0} (xs : List X) (i : ℕ) (x : X) → get_or xs i x �
 set_same [] i x e = refl
 set_same (y ∷ xs) zero x e = ap (λ z. z ∷ xs) (sym e)
 set_same (y ∷ xs) (suc i) x e = ap (λ l. y ∷ l) (set_same xs i x e)
+
+pub any_default : {X : Type 0} (xs : List X) (i : ℕ) (d e : X) → i < length xs → get_or xs i d ≡ get_or xs i e
+any_default [] i d e lt = absurd (omega arith)
+any_default (x ∷ xs) zero d e lt = refl
+any_default (x ∷ xs) (suc i) d e lt = any_default xs i d e (omega arith)

@@ -1,7 +1,7 @@
 //! Looking pieces up by number and by home.
 
-ghost use Rattle.std.specs.Prelude.{◌≡◌, ◌<◌, ◌≤◌, ℕ, length, map, slice_get, slice_index_or, take, None, Some, IfOk};
-ghost use Rattle.std.specs.Option.{option_map, IfSome, IfNone};
+ghost use Rattle.std.specs.Prelude.{◌≡◌, ◌<◌, ◌≤◌, ℕ, length, map, slice_index_or, take, None, IfOk};
+ghost use Rattle.std.specs.Option.{IfSome, IfNone};
 ghost use Rattle.std.specs.List.{AllByRecursion, list_any};
 ghost use Rattle.std.specs.FinMap as fin;
 ghost use Rattle.journal_model.specs.Layouts.{is_home};
@@ -17,7 +17,7 @@ use std::alloc::Global;
 /// The place of the piece with a number, among pieces with rising numbers.
 pub(crate) fn find(pieces: &[SealedPiece], number: u64) -> Option<usize>
     requires { Climb (numbers_of pieces.now) }
-    ensures found { IfSome result (λ at. option_map (λ s. s.number) (slice_get pieces.now at) ≡ Some number) }
+    ensures found { IfSome result (λ at. (at < length pieces.now) × ((s : Piece) → (slice_index_or pieces.now at s).number ≡ number)) }
     ensures missing { IfNone result (rows_at pieces.now number ≡ None) }
 {
     let at = count_below(pieces, number);
@@ -68,7 +68,8 @@ fn has_home(places: &Places, number: u64, home: Home) -> bool
     }
 }
 
-fn is_same(home: Home, other: Home) -> bool
+/// Whether two homes are the same.
+pub(crate) fn is_same(home: Home, other: Home) -> bool
     ensures { result ≡ is_home home other }
 {
     match (home, other) {

@@ -174,10 +174,11 @@ impl Pieces {
         ensures ok { OnOk result (self.new ≡ with_homes number (homes_after_load node) self.old) }
         ensures err { OnErr result (self.new ≡ self.old) }
     {
-        match self.places.load(number, node) {
-            Ok(()) => Ok(()),
-            Err(_) => Err(Memory),
-        }
+        // Nothing but memory refuses a load that is asked for so.
+        let Ok(()) = self.places.load(number, node) else {
+            return Err(Memory);
+        };
+        Ok(())
     }
 
     /// Takes a node from the homes of a segment that is there, on this node and elsewhere; takes no
