@@ -1,4 +1,4 @@
-use Rattle.std.proofs.Common.{◌≡◌, ◌<◌, ℕ, true, false, get_or, nat_lt, arith, rules}
+use Rattle.std.proofs.Common.{◌≡◌, false, get_or, nat_lt, arith, rules}
 use Rattle.std.proofs.lemmas.List.Sorted.{IsPartitionPoint-from_clause, IsPartitionedBy-ltb}
 use Rattle.channel_pieces.specs.Fields.{Piece}
 use Rattle.channel_pieces.proofs.PieceLaws.{pieces_order, numbers_below}

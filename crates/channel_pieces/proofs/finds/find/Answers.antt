@@ -1,4 +1,4 @@
-use Rattle.std.proofs.Common.{◌≡◌, ◌≢◌, ◌<◌, ◌≤◌, ℕ, [], length, get_or, sym, ap, ◌∙◌, arith, rules}
+use Rattle.std.proofs.Common.{◌≡◌, ◌<◌, ◌≤◌, [], length, get_or, sym, ap, ◌∙◌, arith}
 use Rattle.channel_pieces.specs.Fields.{Piece}
 use Rattle.channel_pieces.proofs.ListLaws.{any_default}
 use Rattle.channel_pieces.proofs.PieceLaws.{rows_missing}

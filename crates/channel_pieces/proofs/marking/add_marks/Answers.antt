@@ -1,4 +1,4 @@
-use Rattle.std.proofs.Common.{◌≡◌, ◌+◌, ◌≤◌, List, Some, None, length, take, get_or, sym, ap, subst, ◌∙◌, arith}
+use Rattle.std.proofs.Common.{get_or, sym, ap, ◌∙◌, arith}
 use Rattle.seg_sealed.specs.Marks.{death_at, with_death}
 use Rattle.channel_pieces.proofs.DeathLaws.{Death}
 use Rattle.channel_pieces.proofs.MarkLaws.{with_more, next_free}

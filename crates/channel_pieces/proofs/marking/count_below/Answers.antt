@@ -1,4 +1,4 @@
-use Rattle.std.proofs.Common.{◌≡◌, ◌<◌, ℕ, true, get_or, nat_lt, arith, rules}
+use Rattle.std.proofs.Common.{nat_lt, arith, rules}
 use Rattle.std.proofs.lemmas.List.Sorted.{IsPartitionPoint-from_clause, IsPartitionedBy-ltb}
 use Rattle.channel_pieces.proofs.DeathLaws.{Death, climb_orders, all_below}
 use Rattle.channel_pieces.proofs.marking.count_below.Goals as goal

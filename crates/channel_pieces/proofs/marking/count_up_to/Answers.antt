@@ -1,4 +1,4 @@
-use Rattle.std.proofs.Common.{◌≡◌, ◌<◌, ℕ, true, get_or, nat_le, arith, rules}
+use Rattle.std.proofs.Common.{nat_le, rules}
 use Rattle.std.proofs.lemmas.List.Sorted.{IsPartitionPoint-from_clause, IsPartitionedBy-leb}
 use Rattle.channel_pieces.proofs.DeathLaws.{Death, climb_orders, all_above}
 use Rattle.channel_pieces.proofs.marking.count_up_to.Goals as goal

@@ -1,4 +1,4 @@
-use Rattle.std.proofs.Common.{◌≡◌, ◌++◌, List, get_or, ap, ◌∙◌}
+use Rattle.std.proofs.Common.{◌++◌, List, get_or, ap, ◌∙◌}
 use Rattle.channel_pieces.specs.Fields.{hit_at, index_in}
 use Rattle.channel_pieces.proofs.DeathLaws.{Death, hits_more}
 use Rattle.channel_pieces.proofs.marking.find_hits.Goals as goal

@@ -1,4 +1,4 @@
-use Rattle.std.proofs.Common.{◌≡◌, ℕ, ◌<◌, ◌-◌, List, take, drop, length, get_or, sym, ap, subst, ◌∙◌, arith, rules}
+use Rattle.std.proofs.Common.{ℕ, ◌<◌, ◌-◌, List, take, drop, length, get_or, sym, ap, subst, ◌∙◌, arith}
 use Rattle.std.specs.List.{AllByRecursion}
 use Rattle.channel_pieces.specs.Fields.{Climb, places_in, hits_of}
 use Rattle.channel_pieces.proofs.DeathLaws.{Death, cut_rises, cut_hits, no_rows, none_of, places-drop, climb-drop}

@@ -1,4 +1,4 @@
-use Rattle.std.proofs.Common.{◌≡◌, List, ℕ, sym, ap, subst, ◌∙◌, rules}
+use Rattle.std.proofs.Common.{◌≡◌, List, sym, subst, ◌∙◌}
 use Rattle.channel_pieces.specs.Fields.{AreOpen, hits_of}
 use Rattle.channel_pieces.proofs.DeathLaws.{Death}
 use Rattle.channel_pieces.proofs.MarkLaws.{hits_free}

@@ -1,4 +1,4 @@
-use Rattle.std.proofs.Common.{◌≡◌, ◌∙◌, ◌<◌, ap, map, sym, length, get_or, subst, arith, rules, List}
+use Rattle.std.proofs.Common.{◌≡◌, ◌∙◌, ◌<◌, ap, length, get_or, subst, rules, List}
 use Rattle.std.specs.Prelude.{slice_set}
 use Rattle.channel_pieces.specs.Fields.{Piece, committed}
 use Rattle.channel_pieces.proofs.ListLaws.{front, front_set}

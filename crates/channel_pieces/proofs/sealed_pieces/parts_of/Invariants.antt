@@ -1,4 +1,4 @@
-use Rattle.std.proofs.Common.{◌≡◌, ◌++◌, ℕ, List, take, map}
+use Rattle.std.proofs.Common.{◌≡◌, ℕ, List, take, map}
 use Rattle.std.specs.List.{AllByRecursion}
 use Rattle.row_types.specs.declared.rows.Kind.{Kind}
 use Rattle.seg_sealed.specs.Parts.{shown_rows}

@@ -1,4 +1,4 @@
-use Rattle.std.proofs.Common.{◌≡◌, ◌∙◌, List, ap, map, sym, subst}
+use Rattle.std.proofs.Common.{◌∙◌, List, ap, map, sym, subst}
 use Rattle.std.specs.List.{AllByRecursion}
 use Rattle.journal_model.specs.declared.notes.Home.TheVariants.{Leader}
 use Rattle.seg_sealed.specs.Parts.{SegmentPart, shown_rows}

@@ -1,4 +1,4 @@
-use Rattle.std.proofs.Common.{◌≡◌, ◌∙◌, ◌<◌, ap, map, sym, length, get_or, subst, arith, rules, List, refl}
+use Rattle.std.proofs.Common.{◌≡◌, ◌∙◌, ◌<◌, ap, map, length, get_or, subst, rules, List, refl}
 use Rattle.std.specs.Prelude.{slice_set}
 use Rattle.channel_pieces.specs.Fields.{Piece, readied, settled}
 use Rattle.channel_pieces.proofs.ListLaws.{front, front_set, front_alike, set_same}

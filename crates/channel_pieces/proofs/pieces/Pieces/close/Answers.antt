@@ -1,10 +1,10 @@
 use Rattle.std.proofs.Common.{◌≡◌, ◌<◌, ◌++◌, ◌∷◌, [], List, length, map, sym, ap, subst, ◌∙◌, arith}
 use Rattle.std.specs.Arc.{arc_value}
 use Rattle.std.specs.List.{AllByRecursion}
-use Rattle.seg_sealed.specs.Segments.{SealedSegment, sealed_rows}
+use Rattle.seg_sealed.specs.Segments.{sealed_rows}
 use Rattle.channel_pieces.specs.Pieces.{MarkedLayout, MarkedSegment, placed_of, after_close}
 use Rattle.channel_pieces.specs.Fields.{Piece, homed}
-use Rattle.channel_pieces.proofs.PieceLaws.{IsSealable, sealable, none_at, absent, IsClosing, closed, closing_keeps, closing_seen}
+use Rattle.channel_pieces.proofs.PieceLaws.{sealable, none_at, absent, IsClosing, closed, closing_keeps, closing_seen}
 use Rattle.channel_pieces.proofs.pieces.Pieces.close.Goals as goal
 
 pub seal-requires : goal.seal-requires

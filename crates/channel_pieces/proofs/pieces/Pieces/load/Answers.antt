@@ -1,11 +1,10 @@
-use Rattle.std.proofs.Common.{◌≡◌, Some, false, List, sym, ap, subst, ◌∙◌}
+use Rattle.std.proofs.Common.{false, ap, ◌∙◌}
 use Rattle.std.specs.List.{list_any}
 use Rattle.std.specs.Option.{option_map}
-use Rattle.journal_model.specs.declared.notes.Home.{Home}
 use Rattle.journal_model.specs.declared.notes.Home.TheVariants.{Node}
 use Rattle.journal_model.specs.Layouts.{is_home, homes_after_load}
 use Rattle.channel_pieces.specs.Pieces.{MarkedLayout, segment_in, is_at, with_homes}
-use Rattle.channel_pieces.proofs.HomeLaws.{IsPlacedSo, placed_so, change_keeps, change_seen}
+use Rattle.channel_pieces.proofs.HomeLaws.{placed_so, change_keeps, change_seen}
 use Rattle.channel_pieces.proofs.pieces.Pieces.load.Goals as goal
 
 pub invariant_of-self-2 : goal.invariant_of-self-2

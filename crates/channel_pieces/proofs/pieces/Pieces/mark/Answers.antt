@@ -1,7 +1,7 @@
-use Rattle.std.proofs.Common.{◌≡◌, List, ℕ, map, refl, sym, ap, ap₂, subst, ◌∙◌}
+use Rattle.std.proofs.Common.{◌≡◌, List, ℕ, map, ap, ◌∙◌}
 use Rattle.hybrid_time.specs.declared.times.Timestamp.{Timestamp}
-use Rattle.channel_pieces.specs.Pieces.{MarkedLayout, after_deaths, death_in}
-use Rattle.channel_pieces.specs.Fields.{Piece, MarkedTail, tail_readied, tail_committed, readied, committed}
+use Rattle.channel_pieces.specs.Pieces.{after_deaths}
+use Rattle.channel_pieces.specs.Fields.{MarkedTail, tail_readied, tail_committed, committed}
 use Rattle.channel_pieces.proofs.PieceLaws.{after, settled_keeps, same_seen, if_err, marking_keeps, marking_seen}
 use Rattle.channel_pieces.proofs.pieces.Pieces.mark.Goals as goal
 

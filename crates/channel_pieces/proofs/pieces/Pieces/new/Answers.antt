@@ -1,11 +1,3 @@
-use Rattle.std.proofs.Common.{◌≡◌, ◌≤◌, ℕ, List, [], None, refl, sym, ap, subst, ◌∙◌}
-use Rattle.std.specs.Option.{option_map}
-use Rattle.std.specs.List.{AllByRecursion}
-use Rattle.std.specs.Ordering.{nat_cmp}
-use Rattle.std.specs.FinMap as fin
-use Rattle.row_types.specs.Bits.{IsDimension}
-use Rattle.place_table.specs.Tables.{Table}
-use Rattle.channel_pieces.specs.Fields.{Piece, KeepsPieces}
 use Rattle.channel_pieces.proofs.PieceLaws.{new_keeps}
 use Rattle.channel_pieces.proofs.pieces.Pieces.new.Goals as goal
 

@@ -1,7 +1,7 @@
-use Rattle.std.proofs.Common.{◌≡◌, ◌<◌, ℕ, Some, None, List, length, map, get_or, sym, ap, subst, ◌∙◌, vec_len, arith, rules}
+use Rattle.std.proofs.Common.{◌≡◌, ◌<◌, ℕ, Some, None, List, length, get_or, sym, ap, subst, ◌∙◌, arith, rules}
 use Rattle.std.specs.Option.{option_map}
 use Rattle.channel_pieces.specs.Pieces.{MarkedLayout, MarkedSegment, HasShape, segment_in}
-use Rattle.channel_pieces.specs.Fields.{Piece, IsPiece, homed, rows_at}
+use Rattle.channel_pieces.specs.Fields.{Piece, IsPiece, rows_at}
 use Rattle.channel_pieces.proofs.PieceLaws.{segment_missing, segment_found, fits_at}
 use Rattle.channel_pieces.proofs.pieces.Pieces.part.Goals as goal
 

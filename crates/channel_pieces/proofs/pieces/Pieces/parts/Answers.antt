@@ -1,7 +1,5 @@
-use Rattle.std.proofs.Common.{ℕ, List, ap, subst}
+use Rattle.std.proofs.Common.{subst}
 use Rattle.std.specs.List.{AllByRecursion}
-use Rattle.row_types.specs.declared.rows.Kind.{Kind}
-use Rattle.seg_sealed.specs.Parts.{SegmentPart}
 use Rattle.channel_pieces.specs.Pieces.{MarkedLayout, HasShape}
 use Rattle.channel_pieces.proofs.PieceLaws.{if_ok}
 use Rattle.channel_pieces.proofs.pieces.Pieces.parts.Goals as goal

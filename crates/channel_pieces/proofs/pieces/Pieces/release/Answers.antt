@@ -1,12 +1,12 @@
-use Rattle.std.proofs.Common.{◌≡◌, Some, None, true, not, List, sym, ap, subst, ◌∙◌}
+use Rattle.std.proofs.Common.{true, not, ap, ◌∙◌}
 use Rattle.std.specs.List.{list_any}
 use Rattle.std.specs.Option.{option_map}
 use Rattle.journal_model.specs.declared.notes.Home.{Home}
 use Rattle.journal_model.specs.declared.notes.Home.TheVariants.{Node}
 use Rattle.journal_model.specs.Layouts.{is_home, homes_after_release}
-use Rattle.place_table.specs.Tables.{answer_of, release_refused}
+use Rattle.place_table.specs.Tables.{answer_of}
 use Rattle.channel_pieces.specs.Pieces.{MarkedLayout, segment_in, is_at, is_elsewhere, with_homes}
-use Rattle.channel_pieces.proofs.HomeLaws.{IsPlacedSo, placed_so, release_free, change_keeps, change_seen}
+use Rattle.channel_pieces.proofs.HomeLaws.{placed_so, release_free, change_keeps, change_seen}
 use Rattle.channel_pieces.proofs.pieces.Pieces.release.Goals as goal
 
 pub unreachable-requires : goal.unreachable-requires

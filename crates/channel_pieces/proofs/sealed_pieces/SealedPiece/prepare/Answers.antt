@@ -1,6 +1,5 @@
-use Rattle.std.proofs.Common.{◌≡◌, ◌≤◌, ℕ, List, length, map, sym, ap, ap₂, subst, ◌∙◌, arith}
+use Rattle.std.proofs.Common.{◌≡◌, List, length, map, sym, ap, ap₂, subst, ◌∙◌, arith}
 use Rattle.std.specs.Arc.{arc_value}
-use Rattle.log_model.specs.Places.{Rise}
 use Rattle.journal_model.specs.Views.{Shown}
 use Rattle.seg_sealed.specs.Segments.{SealedSegment, IsSealed, position_of}
 use Rattle.channel_pieces.specs.Fields.{Climb, Piece, readied}

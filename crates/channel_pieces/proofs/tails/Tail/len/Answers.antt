@@ -1,5 +1,5 @@
-use Rattle.std.proofs.Common.{◌≡◌, List, length, map, sym, ap, subst, ◌∙◌, vec_len, arith, rules}
-use Rattle.log_model.specs.Places.{Placed, Rise}
+use Rattle.std.proofs.Common.{◌≡◌, length, map, sym, ap, subst, ◌∙◌, vec_len, arith, rules}
+use Rattle.log_model.specs.Places.{Rise}
 use Rattle.channel_pieces.specs.Pieces.{placed_of}
 use Rattle.channel_pieces.specs.Fields.{MarkedTail}
 use Rattle.channel_pieces.proofs.MarkLaws.{length_positions, length-shown, placed_back}

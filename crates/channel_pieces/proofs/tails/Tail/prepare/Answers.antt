@@ -1,8 +1,7 @@
-use Rattle.std.proofs.Common.{◌≡◌, ◌≤◌, ℕ, List, length, map, sym, ap, ap₂, subst, ◌∙◌, arith}
-use Rattle.seg_sealed.specs.Segments.{position_of}
+use Rattle.std.proofs.Common.{◌≡◌, List, length, sym, ap, ap₂, subst, ◌∙◌, arith}
 use Rattle.journal_model.specs.Views.{Shown}
 use Rattle.channel_pieces.specs.Fields.{Climb, MarkedTail, tail_readied}
-use Rattle.channel_pieces.proofs.MarkLaws.{length_positions, rise_climbs, IsReady, ready}
+use Rattle.channel_pieces.proofs.MarkLaws.{length_positions, rise_climbs, ready}
 use Rattle.channel_pieces.proofs.tails.Tail.prepare.Goals as goal
 
 pub with_deaths-requires-clause-few : goal.with_deaths-requires-clause-few
