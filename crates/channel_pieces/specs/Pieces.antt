@@ -1,9 +1,8 @@
 -- The pieces of a channel: the rows of its tail and of its segments with their marks, and where the segments stand.
-use Rattle.std.specs.Prelude.{◌≡◌, ℕ, ◌<◌, nat_eq, Bool, not, if◌then◌else◌, List, [], ◌∷◌, ◌++◌, map, length, is_some, Option, Some, None}
+use Rattle.std.specs.Prelude.{◌≡◌, ℕ, nat_eq, Bool, not, if◌then◌else◌, List, [], ◌∷◌, ◌++◌, map, length, Option, Some, None}
 use Rattle.std.specs.Option.{option_map, option_or}
-use Rattle.std.specs.List.{filter, list_any, sum_by, count_by, IsDistinct}
+use Rattle.std.specs.List.{filter, list_any, IsDistinct}
 use Rattle.std.specs.Map.{lookup}
-use Rattle.std.specs.Ordering.{nat_cmp}
 use Rattle.std.specs.FinMap as fin
 use Rattle.hybrid_time.specs.declared.times.Timestamp.{Timestamp}
 use Rattle.row_types.specs.declared.rows.Kind.{Kind}
@@ -14,7 +13,7 @@ use Rattle.journal_model.specs.Layouts.{is_home}
 use Rattle.journal_model.specs.Views.{Shown}
 use Rattle.seg_sealed.specs.Segments.{IsRowOf}
 use Rattle.seg_sealed.specs.Parts.{SegmentPart, shown_as, shown_rows}
-use Rattle.place_table.specs.Tables.{Placement, Table}
+use Rattle.place_table.specs.Tables.{Table}
 
 -- a sealed segment: its number, its homes, and its rows in order, each with its mark
 pub record MarkedSegment : Type 0 where
@@ -117,17 +116,3 @@ places_of (s ∷ segments) = map (λ home. s.rows) s.homes ++ places_of segments
 pub record HasShape (dim : ℕ) (kinds : List Kind) (part : SegmentPart) : Type 0 where
   pub dim_is : part.sealed.dim ≡ dim
   pub kinds_are : part.sealed.kinds ≡ kinds
-
--- ---- counts
-
--- the segments that are on nodes
-abbrev pub on_nodes : List MarkedSegment → List MarkedSegment
-on_nodes segments = filter (λ s. not (is_at Leader s)) segments
-
-abbrev pub is_unmarked : Shown → Bool
-is_unmarked s = not (is_some s.mark)
-
--- all rows of some segments, one segment after another
-abbrev pub rows_in : List MarkedSegment → List Shown
-rows_in [] = []
-rows_in (s ∷ segments) = s.rows ++ rows_in segments

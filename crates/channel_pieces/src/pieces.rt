@@ -10,7 +10,7 @@ ghost use Rattle.journal_model.specs.Layouts.{homes_after_load, homes_after_rele
 ghost use Rattle.seg_sealed.specs.Segments.{IsRowOf};
 ghost use Rattle.seg_sealed.specs.Parts.{shown_from, shown_rows};
 ghost use Rattle.place_table.specs.Tables.{IsChosen};
-ghost use Rattle.channel_pieces.specs.Pieces.{no_pieces, placed_of, with_row, after_close, AreOnce, after_deaths, segment_in, with_homes, is_at, is_elsewhere, numbers_at, table_of, places_of, HasShape, on_nodes, is_unmarked, rows_in};
+ghost use Rattle.channel_pieces.specs.Pieces.{no_pieces, placed_of, with_row, after_close, AreOnce, after_deaths, segment_in, with_homes, is_at, is_elsewhere, numbers_at, table_of, places_of, HasShape};
 
 use crate::finds::{find, numbers_with};
 use crate::marking::by_position;
