@@ -1,0 +1,70 @@
+//! The row of a key in a view.
+
+ghost use Rattle.std.specs.Prelude.{◌≡◌, ◌≢◌, ◌≤◌, ◌++◌, List, map, Option, None, IfOk, IfSome};
+ghost use Rattle.std.specs.FinMap as fin;
+ghost use Rattle.row_types.specs.declared.rows.Row.{Row};
+ghost use Rattle.log_model.specs.Logs.{live};
+ghost use Rattle.journal_model.specs.declared.notes.Note.{Note};
+ghost use Rattle.journal_model.specs.Notes.{log_of};
+ghost use Rattle.journal_model.specs.Journals.{IsJournal};
+ghost use Rattle.journal_model.specs.Views.{IsExact};
+ghost use Rattle.seg_sealed.specs.Parts.{shown_from, shown_rows};
+ghost use Rattle.channel_view.specs.Views.{view_in};
+ghost use Rattle.journal_model.specs.Lists.{joined};
+ghost use Rattle.view_scan.specs.Lookups.{IsRowSeen};
+
+use channel_view::View;
+use hybrid_time::Timestamp;
+use growing_segment::SharedTail;
+use log_model::TailRows;
+use row_types::{Key, Memory, Row};
+use seg_sealed::{Marks, Part};
+use std::alloc::Global;
+
+/// The row of a key that a view shows at a timestamp, copied; `None` exactly where it shows none. The
+/// timestamp is from the view's floor to its tick. A walk along all keys.
+pub fn find(alloc: Global, view: &View, ts: Timestamp, key: Key) -> Result<Option<Row>, Memory>
+    requires from_floor { view.now.floor ≤ ts.0 }
+    requires to_tick { ts.0 ≤ view.now.tick }
+    ensures seen { IfOk result (λ found. IsRowSeen ts.0 key (joined (view_in view.now).parts) found) }
+    ensures live { IfOk result (λ found. (notes more : List Note) → IsExact notes (view_in view.now) → IsJournal (notes ++ more)
+        → fin.get (live (log_of (notes ++ more)) ts.0) key.0 ≡ found) }
+{
+    match find_in_tail(alloc, view.tail(), view.tail_marks(), ts, key)? {
+        Some(row) => Ok(Some(row)),
+        None => find_in_parts(alloc, view.parts(), ts, key),
+    }
+}
+
+// The row of a key in a tail.
+fn find_in_tail(
+    alloc: Global,
+    tail: &SharedTail,
+    marks: &Marks,
+    ts: Timestamp,
+    key: Key,
+) -> Result<Option<Row>, Memory>
+    ensures { IfOk result (λ found. IsRowSeen ts.0 key (shown_from marks.now.deaths 0 tail.now.rows) found) }
+{
+    match flat_scan::find_in_tail(tail, marks, ts, key) {
+        Some(i) => Ok(Some(tail.row(i).row.get().copy(alloc)?)),
+        None => Ok(None),
+    }
+}
+
+// The row of a key in some parts.
+fn find_in_parts(
+    alloc: Global,
+    parts: &[Part],
+    ts: Timestamp,
+    key: Key,
+) -> Result<Option<Row>, Memory>
+    ensures { IfOk result (λ found. IsRowSeen ts.0 key (joined (map shown_rows parts.now)) found) }
+{
+    'parts: for part in parts {
+        if let Some(i) = flat_scan::find(part, ts, key) {
+            return Ok(Some(part.sealed().row(alloc, i)?));
+        }
+    }
+    Ok(None)
+}
