@@ -68,7 +68,15 @@ fn offer_all<L: Ledger>(
     ensures steps { steps.new ≡ steps.old + length (joined (view_in view.now).parts) }
 {
     let _floor = view.floor();
-    scan_tail(view.tail(), view.tail_marks(), ts, plan, query, gather, steps);
+    scan_tail(
+        view.tail(),
+        view.tail_marks(),
+        ts,
+        plan,
+        query,
+        gather,
+        steps,
+    );
     offer_parts(view.parts(), ts, plan, query, gather, steps);
 }
 
