@@ -7,3 +7,6 @@
 mod views;
 
 pub use crate::views::View;
+
+#[cfg(test)]
+mod tests;

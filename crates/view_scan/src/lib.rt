@@ -10,3 +10,6 @@ mod searches;
 
 pub use crate::lookups::find;
 pub use crate::searches::run;
+
+#[cfg(test)]
+mod tests;
