@@ -19,6 +19,17 @@ pub record ChannelView : Type 0 where
   pub deaths : List (ℕ × ℕ)
   pub parts : List SegmentPart
 
+abbrev pub seen_as : Collection → ℕ → ℕ → ℕ → Rows → List (ℕ × ℕ) → List SegmentPart → ChannelView
+seen_as collection channel floor tick tail deaths parts = record {
+  collection = collection;
+  channel = channel;
+  floor = floor;
+  tick = tick;
+  tail = tail;
+  deaths = deaths;
+  parts = parts;
+}
+
 -- as the view of a journal: the tail's rows with their marks, and then those of each part
 abbrev pub view_in : ChannelView → View
 view_in v = record { floor = v.floor; tick = v.tick; parts = shown_from v.deaths 0 v.tail.rows ∷ map shown_rows v.parts }

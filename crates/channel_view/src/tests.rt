@@ -34,7 +34,10 @@ fn a_view_lends_what_it_was_made_of(rt: HostRuntime) -> Result<(), Memory> {
         Vec::new(alloc),
     );
     assert_eq!(&rt; view.collection().dim, 8);
-    assert_eq!(&rt; (view.channel(), view.floor(), view.tick()), (3, Timestamp(2), Timestamp(5)));
+    assert_eq!(&rt;
+        (view.channel(), view.floor(), view.tick()),
+        (3, Timestamp(2), Timestamp(5))
+    );
     assert_eq!(&rt; view.tail().dim(), 8);
     assert_eq!(&rt; view.tail_marks().applied(), 7);
     assert!(&rt; view.parts().is_empty());

@@ -4,7 +4,7 @@ ghost use Rattle.std.specs.Prelude.{◌≡◌, ◌≤◌, length};
 ghost use Rattle.std.specs.Arc.{arc_value};
 ghost use Rattle.std.specs.List.{AllByRecursion};
 ghost use Rattle.seg_sealed.specs.Parts.{AreDeathsOf};
-ghost use Rattle.channel_view.specs.Views.{AreRowsOf, IsChannelView};
+ghost use Rattle.channel_view.specs.Views.{AreRowsOf, IsChannelView, seen_as};
 
 use coarse_lists::Collection;
 use growing_segment::SharedTail;
@@ -30,13 +30,13 @@ pub struct View {
 
 impl Model for View {
     ghost use Rattle.std.specs.Arc.{arc_value};
-    ghost use Rattle.channel_view.specs.Views.{ChannelView, IsChannelView};
+    ghost use Rattle.channel_view.specs.Views.{ChannelView, IsChannelView, seen_as};
 
     ghost Value = { ChannelView };
 
-    ghost view = { λ v. record { collection = arc_value v.collection; channel = v.channel; floor = v.floor.0; tick = v.tick.0; tail = v.tail; deaths = v.tail_marks.deaths; parts = v.parts.items } };
+    ghost view = { λ v. seen_as (arc_value v.collection) v.channel v.floor.0 v.tick.0 v.tail v.tail_marks.deaths v.parts.items };
 
-    ghost invariant = { λ v. IsChannelView (record { collection = arc_value v.collection; channel = v.channel; floor = v.floor.0; tick = v.tick.0; tail = v.tail; deaths = v.tail_marks.deaths; parts = v.parts.items }) };
+    ghost invariant = { λ v. IsChannelView (seen_as (arc_value v.collection) v.channel v.floor.0 v.tick.0 v.tail v.tail_marks.deaths v.parts.items) };
 }
 
 impl View {
@@ -56,7 +56,7 @@ impl View {
         requires tail_rows { AreRowsOf (arc_value collection) tail.rows }
         requires marks { AreDeathsOf (length tail.rows) tail_marks.deaths }
         requires part_rows { AllByRecursion (λ part. AreRowsOf (arc_value collection) part.sealed.rows) parts.items }
-        ensures { result ≡ record { collection = arc_value collection; channel = channel; floor = floor.0; tick = tick.0; tail = tail; deaths = tail_marks.deaths; parts = parts.items } }
+        ensures { result ≡ seen_as (arc_value collection) channel floor.0 tick.0 tail tail_marks.deaths parts.items }
     {
         View {
             collection,

@@ -35,4 +35,5 @@ HaveVectorsLike query rows = AllByRecursion (λ s. length query.vector ≡ lengt
 -- the bits of each row, and those that are asked for, are as far from each other as the row's vector is from the query's
 pub record HoldsVectors (query : Query) (rows : List Shown) (count : ℕ) (asked : List Bool) (bits : ℕ → List Bool) : Type 0 where
   pub all : length rows ≤ count
-  pub each : (i : ℕ) (s : Shown) → slice_get rows i ≡ Some s → (metric : Metric) → distance_of metric asked (bits i) ≡ distance_of metric query.vector s.row.vector
+  pub each : (i : ℕ) (s : Shown) → slice_get rows i ≡ Some s → (metric : Metric)
+      → distance_of metric asked (bits i) ≡ distance_of metric query.vector s.row.vector

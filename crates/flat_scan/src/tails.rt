@@ -64,7 +64,8 @@ fn offer_chunks<L: Ledger>(
     requires fit { AllByRecursion (HasDimension (length asked.now.query.now.vector)) (rows_in chunks.now) }
     requires few { length (rows_in chunks.now) ≤ 65536 }
     ensures count { result ≡ length (rows_in chunks.now) }
-    ensures offered { Offered gather.old gather.new (hits_seen asked.now.ts.0 asked.now.plan.now asked.now.query.now (shown_from marks.now.deaths 0 (rows_in chunks.now))) }
+    ensures offered { Offered gather.old gather.new
+        (hits_seen asked.now.ts.0 asked.now.plan.now asked.now.query.now (shown_from marks.now.deaths 0 (rows_in chunks.now))) }
     ensures steps { steps.new ≡ steps.old + length (rows_in chunks.now) }
 {
     let mut from = 0;
@@ -88,7 +89,8 @@ fn offer_chunk<L: Ledger>(
     requires fit { AllByRecursion (HasDimension (length asked.now.query.now.vector)) chunk.now.rows }
     requires few { from + length chunk.now.rows ≤ 65536 }
     ensures next { result ≡ from + length chunk.now.rows }
-    ensures offered { Offered gather.old gather.new (hits_seen asked.now.ts.0 asked.now.plan.now asked.now.query.now (shown_from marks.now.deaths from chunk.now.rows)) }
+    ensures offered { Offered gather.old gather.new
+        (hits_seen asked.now.ts.0 asked.now.plan.now asked.now.query.now (shown_from marks.now.deaths from chunk.now.rows)) }
     ensures steps { steps.new ≡ steps.old + length chunk.now.rows }
 {
     let rows = Piece {
