@@ -193,6 +193,14 @@ fn lists_of_two_searches_merge_to_each_key_once(rt: HostRuntime) -> Result<(), M
     Ok(())
 }
 
+// The first word of the row's vector.
+fn word(found: &Option<Row>) -> Option<u64> {
+    match found {
+        Some(row) => row.vector.words().first().copied(),
+        None => None,
+    }
+}
+
 #[test]
 fn the_row_of_a_key_is_the_one_that_is_live(rt: HostRuntime) -> Result<(), Memory> {
     let alloc = rt.alloc();
@@ -205,8 +213,7 @@ fn the_row_of_a_key_is_the_one_that_is_live(rt: HostRuntime) -> Result<(), Memor
         (6, 3, None),
     ] {
         let found = find(alloc, &view, Timestamp(ts), Key(key))?;
-        let words = found.as_ref().map(|row| row.vector.words()[0]);
-        assert_eq!(&rt; words, want);
+        assert_eq!(&rt; word(&found), want);
     }
     Ok(())
 }
