@@ -1,7 +1,8 @@
 -- Rows without fields, in a collection without columns.
-use Rattle.std.proofs.Common.{◌≡◌, List, [], ◌∷◌, length, IsTrue, sym, ◌∙◌, rules}
+use Rattle.std.proofs.Common.{◌≡◌, List, [], ◌∷◌, length, sym, ap₂, ◌∙◌}
 use Rattle.std.specs.List.{AllByRecursion}
 use Rattle.coarse_lists.specs.declared.collections.Collection.{Collection}
+use Rattle.coarse_lists.specs.Schemas.{are_values}
 use Rattle.log_model.specs.Places.{Placed}
 use Rattle.channel_view.specs.Views.{AreRowsOf}
 
@@ -11,4 +12,4 @@ rows_fit collection [] dim columns a = tt
 rows_fit collection (x ∷ rows) dim columns a =
     let vector = a.0.0 in
     let fields = a.0.1 in
-    (record { vector = vector ∙ sym dim; fields = search rules }, rows_fit collection rows dim columns a.1)
+    (record { vector = vector ∙ sym dim; fields = ap₂ are_values columns fields }, rows_fit collection rows dim columns a.1)
