@@ -1,0 +1,25 @@
+-- When a row is too far to be kept; only proofs need it.
+use Rattle.std.specs.Prelude.{ℕ, ◌/◌, Bool, false, Option, Some, None}
+use Rattle.std.specs.Ordering.{is_lt}
+use Rattle.row_types.specs.declared.hits.Distance.{Distance}
+use Rattle.row_types.specs.declared.hits.Hit.{Hit}
+use Rattle.row_types.specs.Hits.{value_cmp, num_of, den_of}
+
+-- whether a distance is greater than that of a hit, whatever the keys
+abbrev pub is_past : Option Hit → Distance → Bool
+is_past None distance = false
+is_past (Some last) distance = is_lt (value_cmp last.distance distance)
+
+-- the greatest number of bits that is not past a hit; without one, the greatest number of 32 bits
+abbrev pub whole_of : Option Hit → ℕ
+whole_of None = 4294967295
+whole_of (Some last) = num_of last.distance / den_of last.distance
+
+-- the parts of its distance; without a hit no fraction is greater than 0/0 by cross products
+abbrev pub num_in : Option Hit → ℕ
+num_in None = 0
+num_in (Some last) = num_of last.distance
+
+abbrev pub den_in : Option Hit → ℕ
+den_in None = 0
+den_in (Some last) = den_of last.distance

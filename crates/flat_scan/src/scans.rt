@@ -1,0 +1,176 @@
+//! The walk along rows that stand together.
+
+ghost use Rattle.std.specs.Prelude.{◌≡◌, ◌+◌, ◌<◌, ◌≤◌, ◌∷◌, [], length, map, Some, IfSome, slice_get};
+ghost use Rattle.std.specs.List.{AllByRecursion};
+ghost use Rattle.row_types.specs.Bits.{AreWordsOf};
+ghost use Rattle.row_types.specs.Hits.{least, distance_of};
+ghost use Rattle.log_model.specs.Places.{IsColumn, width_of};
+ghost use Rattle.journal_model.specs.Views.{Shown};
+ghost use Rattle.top_list.specs.Kept.{Offered, IsBehindAll};
+ghost use Rattle.view_laws.specs.Found.{hits_seen};
+ghost use Rattle.flat_scan.specs.Rows.{AreDistances, HoldsVectors, HaveVectorsLike, vector_shown};
+
+use crate::bars::Bar;
+use crate::columns::{Column, Fixed, Wide};
+use crate::distances::{ByBits, ByShare, Distances};
+use crate::rows::Rows;
+use bit_distance::Steps;
+use hybrid_time::Timestamp;
+use log_model::{Plan, Query};
+use row_types::{Hit, Metric};
+use std::sync::ledger::Ledger;
+use top_list::Gather;
+
+/// What a scan asks of each row.
+#[derive(Drop)]
+pub(crate) struct Asked<'a> {
+    pub(crate) ts: Timestamp,
+    pub(crate) plan: &'a Plan,
+    pub(crate) query: &'a Query,
+}
+
+/// Offers rows whose words stand in one column. The width of the column is chosen here, once for all.
+pub(crate) fn offer_words<R: Rows, L: Ledger>(
+    rows: &R,
+    words: &[u64],
+    asked: &Asked,
+    gather: &mut Gather,
+    steps: &mut Steps<L>,
+)
+    requires fits { HaveVectorsLike asked.now.query.now (R.shown rows.now) }
+    requires column { IsColumn (width_of (length asked.now.query.now.vector)) (map vector_shown (R.shown rows.now)) words.now }
+    ensures offered { Offered gather.old gather.new (hits_seen asked.now.ts.0 asked.now.plan.now asked.now.query.now (R.shown rows.now)) }
+    ensures steps { steps.new ≡ steps.old + length (R.shown rows.now) }
+{
+    let query = asked.query.vector.words();
+    match query.len() {
+        1 => offer_fixed::<R, L, 1>(rows, words, query, asked, gather, steps),
+        2 => offer_fixed::<R, L, 2>(rows, words, query, asked, gather, steps),
+        4 => offer_fixed::<R, L, 4>(rows, words, query, asked, gather, steps),
+        _ => offer_wide(rows, words, query, asked, gather, steps),
+    }
+}
+
+// Vectors of exactly `W` words.
+fn offer_fixed<R: Rows, L: Ledger, const W: usize>(
+    rows: &R,
+    words: &[u64],
+    query: &[u64],
+    asked: &Asked,
+    gather: &mut Gather,
+    steps: &mut Steps<L>,
+)
+    requires some { 0 < W }
+    requires few { W ≤ 64 }
+    requires width { length query.now ≡ W }
+    requires query { AreWordsOf asked.now.query.now.vector query.now }
+    requires fits { HaveVectorsLike asked.now.query.now (R.shown rows.now) }
+    requires column { IsColumn W (map vector_shown (R.shown rows.now)) words.now }
+    ensures offered { Offered gather.old gather.new (hits_seen asked.now.ts.0 asked.now.plan.now asked.now.query.now (R.shown rows.now)) }
+    ensures steps { steps.new ≡ steps.old + length (R.shown rows.now) }
+{
+    let (ours, _) = query.as_chunks::<W>();
+    let (theirs, _) = words.as_chunks::<W>();
+    let column = Fixed {
+        rows: theirs,
+        query: &ours[0],
+    };
+    offer_column(rows, &column, asked, gather, steps);
+}
+
+// Vectors of any width.
+fn offer_wide<R: Rows, L: Ledger>(
+    rows: &R,
+    words: &[u64],
+    query: &[u64],
+    asked: &Asked,
+    gather: &mut Gather,
+    steps: &mut Steps<L>,
+)
+    requires query { AreWordsOf asked.now.query.now.vector query.now }
+    requires fits { HaveVectorsLike asked.now.query.now (R.shown rows.now) }
+    requires column { IsColumn (length query.now) (map vector_shown (R.shown rows.now)) words.now }
+    ensures offered { Offered gather.old gather.new (hits_seen asked.now.ts.0 asked.now.plan.now asked.now.query.now (R.shown rows.now)) }
+    ensures steps { steps.new ≡ steps.old + length (R.shown rows.now) }
+{
+    let column = Wide {
+        words,
+        query,
+        count: rows.len(),
+    };
+    offer_column(rows, &column, asked, gather, steps);
+}
+
+// The metric is chosen here, once for all rows.
+fn offer_column<R: Rows, C: Column, L: Ledger>(
+    rows: &R,
+    column: &C,
+    asked: &Asked,
+    gather: &mut Gather,
+    steps: &mut Steps<L>,
+)
+    requires { HoldsVectors asked.now.query.now (R.shown rows.now) (C.count column.now) (C.asked column.now) (C.bits column.now) }
+    ensures offered { Offered gather.old gather.new (hits_seen asked.now.ts.0 asked.now.plan.now asked.now.query.now (R.shown rows.now)) }
+    ensures steps { steps.new ≡ steps.old + length (R.shown rows.now) }
+{
+    match asked.plan.metric {
+        Metric::Hamming => offer_rows(rows, &ByBits(column), asked, gather, steps),
+        Metric::Jaccard => offer_rows(rows, &ByShare(column), asked, gather, steps),
+    }
+}
+
+/// Offers rows at their distances, in one step a row.
+pub(crate) fn offer_rows<R: Rows, D: Distances, L: Ledger>(
+    rows: &R,
+    far: &D,
+    asked: &Asked,
+    gather: &mut Gather,
+    steps: &mut Steps<L>,
+)
+    requires { AreDistances asked.now.plan.now asked.now.query.now (R.shown rows.now) (D.count far.now) (D.far far.now) }
+    ensures offered { Offered gather.old gather.new (hits_seen asked.now.ts.0 asked.now.plan.now asked.now.query.now (R.shown rows.now)) }
+    ensures steps { steps.new ≡ steps.old + length (R.shown rows.now) }
+{
+    let mut bar = Bar::of(gather.bar());
+    'rows: for i in 0..rows.len() {
+        bar = offer_row(rows, far, i, asked, bar, gather, steps);
+    }
+}
+
+// Offers a row, if it is visible and passes, and gives a bar of the list: a hit behind which nothing
+// is kept. The row's fields are looked at only where it is near enough.
+fn offer_row<R: Rows, D: Distances, L: Ledger>(
+    rows: &R,
+    far: &D,
+    i: u32,
+    asked: &Asked,
+    bar: Bar,
+    gather: &mut Gather,
+    steps: &mut Steps<L>,
+) -> Bar
+    ghost s: { Shown }
+    requires row { slice_get (R.shown rows.now) i ≡ Some s }
+    requires below { i < length (R.shown rows.now) }
+    requires there { i < D.count far.now }
+    requires far { D.far far.now i ≡ distance_of asked.now.plan.now.metric asked.now.query.now.vector s.row.vector }
+    requires own { gather.old.hits ≡ least gather.old.k gather.old.hits }
+    requires bar { IfSome bar.hit (IsBehindAll gather.old) }
+    ensures offered { Offered gather.old gather.new (hits_seen asked.now.ts.0 asked.now.plan.now asked.now.query.now (s ∷ [])) }
+    ensures bar { IfSome result.hit (IsBehindAll gather.new) }
+    ensures steps { steps.new ≡ steps.old + 1 }
+{
+    steps.tick();
+    let distance = far.distance(i);
+    if bar.is_before(distance) {
+        return bar;
+    }
+    if !rows.is_visible(i, asked.ts) {
+        return bar;
+    }
+    if !rows.passes(i, asked.query) {
+        return bar;
+    }
+    let key = rows.key(i);
+    gather.offer(Hit { distance, key });
+    Bar::of(gather.bar())
+}
