@@ -1,0 +1,5 @@
+pub mod MarkLaws
+pub mod ShelfLaws
+pub mod StepLaws
+pub mod FrontLaws
+pub mod MoveLaws
