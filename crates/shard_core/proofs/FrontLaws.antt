@@ -15,20 +15,23 @@ use Rattle.journal_model.specs.Views.{Shown, shown}
 use Rattle.journal_model.proofs.ListLaws.{in_left, in_right, in_last, in_map, out_map, all_in, all_front, all_from}
 use Rattle.journal_model.proofs.SizeLaws.{sizes}
 use Rattle.journal_model.proofs.NumberLaws.{numbers}
+use Rattle.seg_sealed.specs.Parts.{shown_as}
+use Rattle.channel_pieces.specs.Pieces.{MarkedSegment, marked_by, placed_of, segment_marked}
+use Rattle.hybrid_time.specs.declared.times.Timestamp.{Timestamp}
 use Rattle.shard_core.specs.declared.pending.Pending.{Pending}
 use Rattle.shard_core.specs.declared.pending.Pending.TheVariants.{Row, Closed}
-use Rattle.shard_core.specs.Shelves.{Shelf, Shelves, shelf_of, shelves_of}
-use Rattle.shard_core.specs.Steps.{unmarked, with_shown, with_closed, after_all, with_end, shelf_with_ends, caught_up}
-use Rattle.shard_core.specs.Lagging.{IsBehind, place_of, Fits, Closes}
+use Rattle.shard_core.specs.Shelves.{Shelves, shelf_of, shelves_of}
+use Rattle.shard_core.specs.Steps.{with_shown, with_closed, after_all, caught_up}
+use Rattle.shard_core.specs.Lagging.{IsBehind, Fits, Closes}
 use Rattle.shard_core.proofs.ShelfLaws.{map_twice}
 
 -- ---- once all is brought up, a tail is the front of a tail or of a segment
 
 abbrev IsFront : List Shown → Shelves → Type 0
-IsFront rows u = (rest : List Shown) × ((u.tail ≡ rows ++ rest) ⊎ ((s : Shelf) × IsIn s u.segments × (s.rows ≡ rows ++ rest)))
+IsFront rows u = (rest : List Shown) × ((u.tail ≡ rows ++ rest) ⊎ ((s : MarkedSegment) × IsIn s u.segments × (s.rows ≡ rows ++ rest)))
 
-abbrev Begins : List Shelf → List Shelf → Type 0
-Begins xs ys = (more : List Shelf) × (ys ≡ xs ++ more)
+abbrev Begins : List MarkedSegment → List MarkedSegment → Type 0
+Begins xs ys = (more : List MarkedSegment) × (ys ≡ xs ++ more)
 
 segments_begin : (notes : List Note) (pending : List Pending) (t : Shelves) → Begins t.segments (after_all notes t pending).segments
 segments_begin notes [] t = ([], sym (append-nil t.segments))
@@ -38,7 +41,7 @@ segments_begin notes (Row position ∷ pending) t = subst (λ l. Begins l (after
     same None = refl
     same (Some x) = refl
 segments_begin notes (Closed number ∷ pending) t =
-    let s : Shelf = record { number = number; homes = Leader ∷ []; rows = t.tail } in
+    let s : MarkedSegment = record { number = number; homes = Leader ∷ []; rows = t.tail } in
     let rest = segments_begin notes pending (with_closed t number) in
     (s ∷ rest.0, rest.1 ∙ append_assoc t.segments (s ∷ []) rest.0)
 
@@ -46,10 +49,10 @@ segments_begin notes (Closed number ∷ pending) t =
 front_row : (t : Shelves) (o : Option Placed) (u : Shelves) → IsFront (with_shown t o).tail u → IsFront t.tail u
 front_row t None u f = f
 front_row t (Some x) u f = (
-  unmarked x ∷ f.0,
+  shown_as x None ∷ f.0,
   ⊎_elim
-      (λ e. inl (e ∙ append_assoc t.tail (unmarked x ∷ []) f.0))
-      (λ h. inr (h.0, h.1, h.2 ∙ append_assoc t.tail (unmarked x ∷ []) f.0))
+      (λ e. inl (e ∙ append_assoc t.tail (shown_as x None ∷ []) f.0))
+      (λ h. inr (h.0, h.1, h.2 ∙ append_assoc t.tail (shown_as x None ∷ []) f.0))
       f.1,
 )
 
@@ -57,44 +60,44 @@ front : (notes : List Note) (pending : List Pending) (t : Shelves) → IsFront t
 front notes [] t = ([], inl (sym (append-nil t.tail)))
 front notes (Row position ∷ pending) t = front_row t (put_at notes position) (after_all notes (with_shown t (put_at notes position)) pending) (front notes pending (with_shown t (put_at notes position)))
 front notes (Closed number ∷ pending) t =
-    let s : Shelf = record { number = number; homes = Leader ∷ []; rows = t.tail } in
+    let s : MarkedSegment = record { number = number; homes = Leader ∷ []; rows = t.tail } in
     let more = segments_begin notes pending (with_closed t number) in
     ([], inr (s, subst (IsIn s) (sym more.1) (in_left s (t.segments ++ s ∷ []) more.0 (in_last s t.segments)), sym (append-nil t.tail)))
 
 -- ---- the rows of shelves by their places
 
-places_kept : (ds : List (ℕ × ℕ)) (rows : List Shown) → map place_of (map (with_end ds) rows) ≡ map place_of rows
-places_kept ds rows = map_twice (with_end ds) place_of place_of (λ r. refl) rows
+places_kept : (ds : List (ℕ × Timestamp)) (rows : List Shown) → map placed_of (map (marked_by ds) rows) ≡ map placed_of rows
+places_kept ds rows = map_twice (marked_by ds) placed_of placed_of (λ r. refl) rows
 
-places_back : (notes : List Note) (xs : List Placed) → map place_of (map (shown notes) xs) ≡ xs
+pub places_back : (notes : List Note) (xs : List Placed) → map placed_of (map (shown notes) xs) ≡ xs
 places_back notes [] = refl
 places_back notes (x ∷ xs) = ap (λ l. x ∷ l) (places_back notes xs)
 
 -- ---- numbers that rise
 
-abbrev Climb : List Shelf → Type 0
+abbrev Climb : List MarkedSegment → Type 0
 Climb [] = Unit {0}
 Climb (s ∷ segments) = AllByRecursion (λ other. s.number < other.number) segments × Climb segments
 
-lower : (xs : List Shelf) (s : Shelf) (rest : List Shelf) → Climb (xs ++ s ∷ rest) → AllByRecursion (λ z. z.number < s.number) xs
+lower : (xs : List MarkedSegment) (s : MarkedSegment) (rest : List MarkedSegment) → Climb (xs ++ s ∷ rest) → AllByRecursion (λ z. z.number < s.number) xs
 lower [] s rest c = tt
 lower (z ∷ xs) s rest c = (all_in (λ y. z.number < y.number) (xs ++ s ∷ rest) s c.0 (in_right s xs (s ∷ rest) (inl refl)), lower xs s rest c.1)
 
-all_above : (ds : List (ℕ × ℕ)) (notes : List Note) (n : ℕ) (xs : List Shelf) (ss : List Segment) → map (shelf_with_ends ds) xs ≡ map (shelf_of notes) ss → AllByRecursion (λ s. n < s.number) ss → AllByRecursion (λ x. n < x.number) xs
+all_above : (ds : List (ℕ × Timestamp)) (notes : List Note) (n : ℕ) (xs : List MarkedSegment) (ss : List Segment) → map (segment_marked ds) xs ≡ map (shelf_of notes) ss → AllByRecursion (λ s. n < s.number) ss → AllByRecursion (λ x. n < x.number) xs
 all_above ds notes n [] ss e a = tt
 all_above ds notes n (x ∷ xs) [] e a = cc
 all_above ds notes n (x ∷ xs) (s ∷ ss) e a =
-    let first : shelf_with_ends ds x ≡ shelf_of notes s = cc in
-    let rest : map (shelf_with_ends ds) xs ≡ map (shelf_of notes) ss = cc in
-    (subst (λ m. n < m) (ap (λ (z : Shelf). z.number) (sym first)) a.0, all_above ds notes n xs ss rest a.1)
+    let first : segment_marked ds x ≡ shelf_of notes s = cc in
+    let rest : map (segment_marked ds) xs ≡ map (shelf_of notes) ss = cc in
+    (subst (λ m. n < m) (ap (λ (z : MarkedSegment). z.number) (sym first)) a.0, all_above ds notes n xs ss rest a.1)
 
-climbs : (ds : List (ℕ × ℕ)) (notes : List Note) (xs : List Shelf) (ss : List Segment) → map (shelf_with_ends ds) xs ≡ map (shelf_of notes) ss → NumbersRise ss → Climb xs
+climbs : (ds : List (ℕ × Timestamp)) (notes : List Note) (xs : List MarkedSegment) (ss : List Segment) → map (segment_marked ds) xs ≡ map (shelf_of notes) ss → NumbersRise ss → Climb xs
 climbs ds notes [] ss e a = tt
 climbs ds notes (x ∷ xs) [] e a = cc
 climbs ds notes (x ∷ xs) (s ∷ ss) e a =
-    let first : shelf_with_ends ds x ≡ shelf_of notes s = cc in
-    let rest : map (shelf_with_ends ds) xs ≡ map (shelf_of notes) ss = cc in
-    let same : s.number ≡ x.number = ap (λ (z : Shelf). z.number) (sym first) in
+    let first : segment_marked ds x ≡ shelf_of notes s = cc in
+    let rest : map (segment_marked ds) xs ≡ map (shelf_of notes) ss = cc in
+    let same : s.number ≡ x.number = ap (λ (z : MarkedSegment). z.number) (sym first) in
     (subst (λ m. AllByRecursion (λ y. m < y.number) xs) same (all_above ds notes s.number xs ss rest a.0), climbs ds notes xs ss rest a.1)
 
 -- ---- a piece, and its fronts
@@ -134,47 +137,47 @@ module _ (channel : Channel) (st : State) (positive : 0 < channel.seal_rows) (so
   }
 
   -- the tail so far is a front of a piece of the journal
-  pub tail_so_far : (pending : List Pending) (deaths : List (ℕ × ℕ)) (t : Shelves) → caught_up st.notes pending deaths t ≡ shelves_of channel st.notes → Fits channel st.notes (map place_of t.tail)
+  pub tail_so_far : (pending : List Pending) (deaths : List (ℕ × Timestamp)) (t : Shelves) → caught_up st.notes pending deaths t ≡ shelves_of channel st.notes → Fits channel st.notes (map placed_of t.tail)
   tail_so_far pending deaths t is =
       let f = front st.notes pending t in
       let u : Shelves = after_all st.notes t pending in
       ⊎_elim
       (λ e.
-      let all : map place_of t.tail ++ map place_of f.0 ≡ (layout_of channel st.notes).tail =
-      sym (map-append place_of t.tail f.0) ∙ ap (map place_of) (sym e) ∙ sym (places_kept deaths u.tail) ∙ ap (λ (z : Shelves). map place_of z.tail) is ∙ places_back st.notes (layout_of channel st.notes).tail in
-      fits_front (map place_of t.tail) (map place_of f.0) (subst (Fits channel st.notes) (sym all) tail_fits))
+      let all : map placed_of t.tail ++ map placed_of f.0 ≡ (layout_of channel st.notes).tail =
+      sym (map-append placed_of t.tail f.0) ∙ ap (map placed_of) (sym e) ∙ sym (places_kept deaths u.tail) ∙ ap (λ (z : Shelves). map placed_of z.tail) is ∙ places_back st.notes (layout_of channel st.notes).tail in
+      fits_front (map placed_of t.tail) (map placed_of f.0) (subst (Fits channel st.notes) (sym all) tail_fits))
       (λ h.
-      let there : IsIn (shelf_with_ends deaths h.0) (map (shelf_of st.notes) (layout_of channel st.notes).segments) =
-      subst (λ (z : Shelves). IsIn (shelf_with_ends deaths h.0) z.segments) is (in_map (shelf_with_ends deaths) h.0 u.segments h.1) in
-      let out = out_map (shelf_of st.notes) (shelf_with_ends deaths h.0) (layout_of channel st.notes).segments there in
-      let all : map place_of t.tail ++ map place_of f.0 ≡ out.0.piece =
-      sym (map-append place_of t.tail f.0) ∙ ap (map place_of) (sym h.2) ∙ sym (places_kept deaths h.0.rows) ∙ ap (λ (z : Shelf). map place_of z.rows) out.2 ∙ places_back st.notes out.0.piece in
-      fits_front (map place_of t.tail) (map place_of f.0) (subst (Fits channel st.notes) (sym all) (piece_fits out.0 out.1)))
+      let there : IsIn (segment_marked deaths h.0) (map (shelf_of st.notes) (layout_of channel st.notes).segments) =
+      subst (λ (z : Shelves). IsIn (segment_marked deaths h.0) z.segments) is (in_map (segment_marked deaths) h.0 u.segments h.1) in
+      let out = out_map (shelf_of st.notes) (segment_marked deaths h.0) (layout_of channel st.notes).segments there in
+      let all : map placed_of t.tail ++ map placed_of f.0 ≡ out.0.piece =
+      sym (map-append placed_of t.tail f.0) ∙ ap (map placed_of) (sym h.2) ∙ sym (places_kept deaths h.0.rows) ∙ ap (λ (z : MarkedSegment). map placed_of z.rows) out.2 ∙ places_back st.notes out.0.piece in
+      fits_front (map placed_of t.tail) (map placed_of f.0) (subst (Fits channel st.notes) (sym all) (piece_fits out.0 out.1)))
       f.1
 
   -- a row that is pending
-  pub row_fits : (position : ℕ) (pending : List Pending) (deaths : List (ℕ × ℕ)) (t : Shelves) (x : Placed) → IsBehind channel st.notes (Row position ∷ pending) deaths t → put_at st.notes position ≡ Some x
-      → Fits channel st.notes (map place_of t.tail ++ x ∷ [])
+  pub row_fits : (position : ℕ) (pending : List Pending) (deaths : List (ℕ × Timestamp)) (t : Shelves) (x : Placed) → IsBehind channel st.notes (Row position ∷ pending) deaths t → put_at st.notes position ≡ Some x
+      → Fits channel st.notes (map placed_of t.tail ++ x ∷ [])
   row_fits position pending deaths t x k put =
-      subst (Fits channel st.notes) (map-append place_of t.tail (unmarked x ∷ []))
+      subst (Fits channel st.notes) (map-append placed_of t.tail (shown_as x None ∷ []))
       (tail_so_far pending deaths (with_shown t (Some x)) (ap (λ o. caught_up st.notes pending deaths (with_shown t o)) (sym put) ∙ k.is))
 
 -- a boundary that is pending
 module _ (channel : Channel) (st : State) (sound : IsSound channel st) where
-  pub end_fits : (number : ℕ) (pending : List Pending) (deaths : List (ℕ × ℕ)) (t : Shelves) → IsBehind channel st.notes (Closed number ∷ pending) deaths t → Closes channel st.notes t number
+  pub end_fits : (number : ℕ) (pending : List Pending) (deaths : List (ℕ × Timestamp)) (t : Shelves) → IsBehind channel st.notes (Closed number ∷ pending) deaths t → Closes channel st.notes t number
   end_fits number pending deaths t k =
-      let s : Shelf = record { number = number; homes = Leader ∷ []; rows = t.tail } in
+      let s : MarkedSegment = record { number = number; homes = Leader ∷ []; rows = t.tail } in
       let more = segments_begin st.notes pending (with_closed t number) in
       let u : Shelves = after_all st.notes (with_closed t number) pending in
       let numbered = numbers channel st.notes sound.lawful in
-      let shows : map (shelf_with_ends deaths) u.segments ≡ map (shelf_of st.notes) (layout_of channel st.notes).segments = ap (λ (z : Shelves). z.segments) k.is in
+      let shows : map (segment_marked deaths) u.segments ≡ map (shelf_of st.notes) (layout_of channel st.notes).segments = ap (λ (z : Shelves). z.segments) k.is in
       let at : IsIn s u.segments = subst (IsIn s) (sym more.1) (in_left s (t.segments ++ s ∷ []) more.0 (in_last s t.segments)) in
-      let out = out_map (shelf_of st.notes) (shelf_with_ends deaths s) (layout_of channel st.notes).segments (subst (IsIn (shelf_with_ends deaths s)) shows (in_map (shelf_with_ends deaths) s u.segments at)) in
-      let same : out.0.number ≡ number = ap (λ (z : Shelf). z.number) (sym out.2) in
+      let out = out_map (shelf_of st.notes) (segment_marked deaths s) (layout_of channel st.notes).segments (subst (IsIn (segment_marked deaths s)) shows (in_map (segment_marked deaths) s u.segments at)) in
+      let same : out.0.number ≡ number = ap (λ (z : MarkedSegment). z.number) (sym out.2) in
       record {
         rows = let some : 0 < length out.0.piece = (all_in IsSegment (layout_of channel st.notes).segments out.0 sound.segments out.1).some in
-            let rows_are : map place_of t.tail ≡ out.0.piece = sym (places_kept deaths t.tail) ∙ ap (λ (z : Shelf). map place_of z.rows) out.2 ∙ places_back st.notes out.0.piece in
-            subst (λ n. 0 < n) (sym (ap length rows_are) ∙ length-map t.tail place_of) some;
+            let rows_are : map placed_of t.tail ≡ out.0.piece = sym (places_kept deaths t.tail) ∙ ap (λ (z : MarkedSegment). map placed_of z.rows) out.2 ∙ places_back st.notes out.0.piece in
+            subst (λ n. 0 < n) (sym (ap length rows_are) ∙ length-map t.tail placed_of) some;
         above = lower t.segments s more.0 (subst Climb (more.1 ∙ append_assoc t.segments (s ∷ []) more.0) (climbs deaths st.notes u.segments (layout_of channel st.notes).segments shows numbered.rise));
         taken = subst (IsTaken channel (layout_of channel st.notes).taken) same (all_in (λ z. IsTaken channel (layout_of channel st.notes).taken z.number) (layout_of channel st.notes).segments out.0 numbered.taken out.1);
       }

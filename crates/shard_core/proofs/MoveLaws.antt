@@ -15,25 +15,28 @@ use Rattle.journal_model.specs.Puts.{ended, first_end, death}
 use Rattle.journal_model.specs.Views.{Shown, shown}
 use Rattle.journal_model.proofs.LayoutLaws.{layout-snoc}
 use Rattle.journal_model.proofs.PutLaws.{dead_at-append, first_end-one, option_or-none, dead_at_past}
+use Rattle.channel_pieces.specs.Pieces.{MarkedSegment, rehomed}
+use Rattle.hybrid_time.specs.declared.times.Timestamp.{Timestamp}
 use Rattle.shard_core.specs.declared.pending.Pending.{Pending}
-use Rattle.shard_core.specs.Shelves.{Shelf, Shelves, no_shelves, shelf_of, shelves_in, shelves_of, with_places, moved, shelves_but, with_shelf, with_product, product_of, merged_shelves}
+use Rattle.shard_core.specs.Shelves.{Shelves, no_shelves, shelf_of, shelves_in, shelves_of, shelves_but, with_shelf, with_product, product_of, merged_shelves}
 use Rattle.shard_core.specs.Steps.{after_pending, with_ends}
 use Rattle.shard_core.specs.Lagging.{IsBehind}
+use Rattle.shard_core.proofs.MarkLaws.{once_none}
 use Rattle.shard_core.proofs.ShelfLaws.{no_ends}
 
 -- ---- nothing is pending, and no death is open
 
 pub brought_up : (channel : Channel) (notes : List Note) (s : Shelves) → s ≡ shelves_of channel notes → IsBehind channel notes [] [] s
-brought_up channel notes s is = record { rows = tt; died = tt; apart = tt; is = no_ends s ∙ is }
+brought_up channel notes s is = record { rows = tt; died = tt; once = once_none; is = no_ends s ∙ is }
 
 pub shows_all : (channel : Channel) (notes : List Note) (s : Shelves) → IsBehind channel notes [] [] s → s ≡ shelves_of channel notes
 shows_all channel notes s k = sym (no_ends s) ∙ k.is
 
 -- ---- segments that change with their layout
 
-moved_shown : (notes : List Note) (number : ℕ) (change : List Home → List Home) (segments : List Segment) → moved number change (map (shelf_of notes) segments) ≡ map (shelf_of notes) (rehome number change segments)
+moved_shown : (notes : List Note) (number : ℕ) (change : List Home → List Home) (segments : List Segment) → rehomed number change (map (shelf_of notes) segments) ≡ map (shelf_of notes) (rehome number change segments)
 moved_shown notes number change [] = refl
-moved_shown notes number change (s ∷ segments) = elim (nat_eq s.number number) as (λ b. cond b (with_places change (shelf_of notes s) ∷ map (shelf_of notes) segments) (shelf_of notes s ∷ moved number change (map (shelf_of notes) segments)) ≡ map (shelf_of notes) (cond b (with_homes change s ∷ segments) (s ∷ rehome number change segments))) [
+moved_shown notes number change (s ∷ segments) = elim (nat_eq s.number number) as (λ b. cond b (record { number = s.number; homes = change s.homes; rows = map (shown notes) s.piece } ∷ map (shelf_of notes) segments) (shelf_of notes s ∷ rehomed number change (map (shelf_of notes) segments)) ≡ map (shelf_of notes) (cond b (with_homes change s ∷ segments) (s ∷ rehome number change segments))) [
   | true ↦ refl
   | false ↦ ap (λ l. shelf_of notes s ∷ l) (moved_shown notes number change segments)
 ]
@@ -84,34 +87,34 @@ module _ (notes : List Note) (note : Note) (quiet : (key : ℤ) → ended key no
 
   same_segments : (segments : List Segment) → map (shelf_of (notes ++ note ∷ [])) segments ≡ map (shelf_of notes) segments
   same_segments [] = refl
-  same_segments (s ∷ segments) = ap₂ (λ (l : List Shown) (m : List Shelf). record { number = s.number; homes = s.homes; rows = l } ∷ m) (same_shown s.piece) (same_segments segments)
+  same_segments (s ∷ segments) = ap₂ (λ (l : List Shown) (m : List MarkedSegment). record { number = s.number; homes = s.homes; rows = l } ∷ m) (same_shown s.piece) (same_segments segments)
 
   pub same_shelves : (layout : Layout) → shelves_in (notes ++ note ∷ []) layout ≡ shelves_in notes layout
-  same_shelves layout = ap₂ (λ (l : List Shown) (m : List Shelf). record { tail = l; segments = m }) (same_shown layout.tail) (same_segments layout.segments)
+  same_shelves layout = ap₂ (λ (l : List Shown) (m : List MarkedSegment). record { tail = l; segments = m }) (same_shown layout.tail) (same_segments layout.segments)
 
 -- ---- the notes
 
 module _ (channel : Channel) (notes : List Note) (note : Note) (s : Shelves) (k : IsBehind channel notes [] [] s) where
-  then : (segments : List Shelf) (layout : Layout) → ((key : ℤ) → ended key note.kind ≡ None) → layout_after channel notes note.by (layout_of channel notes) note.kind ≡ layout
+  then : (segments : List MarkedSegment) (layout : Layout) → ((key : ℤ) → ended key note.kind ≡ None) → layout_after channel notes note.by (layout_of channel notes) note.kind ≡ layout
       → layout.tail ≡ (layout_of channel notes).tail → segments ≡ map (shelf_of notes) layout.segments
       → IsBehind channel (notes ++ note ∷ []) [] [] (record { tail = s.tail; segments = segments })
   then segments layout quiet after tail is = brought_up channel (notes ++ note ∷ []) (record { tail = s.tail; segments = segments })
-      (ap₂ (λ (l : List Shown) (m : List Shelf). record { tail = l; segments = m }) (ap (λ (z : Shelves). z.tail) (shows_all channel notes s k) ∙ ap (map (shown notes)) (sym tail)) is
+      (ap₂ (λ (l : List Shown) (m : List MarkedSegment). record { tail = l; segments = m }) (ap (λ (z : Shelves). z.tail) (shows_all channel notes s k) ∙ ap (map (shown notes)) (sym tail)) is
       ∙ sym (same_shelves notes note quiet layout)
       ∙ ap (shelves_in (notes ++ note ∷ [])) (sym after ∙ sym (layout-snoc channel notes note)))
 
   shows : s.segments ≡ map (shelf_of notes) (layout_of channel notes).segments
   shows = ap (λ (z : Shelves). z.segments) (shows_all channel notes s k)
 
-  pub loaded : (segment node : ℕ) → note.kind ≡ Load segment node → IsBehind channel (notes ++ note ∷ []) [] [] (record { tail = s.tail; segments = moved segment (homes_after_load node) s.segments })
-  loaded segment node e = then (moved segment (homes_after_load node) s.segments) (layout_after channel notes note.by (layout_of channel notes) (Load segment node))
+  pub loaded : (segment node : ℕ) → note.kind ≡ Load segment node → IsBehind channel (notes ++ note ∷ []) [] [] (record { tail = s.tail; segments = rehomed segment (homes_after_load node) s.segments })
+  loaded segment node e = then (rehomed segment (homes_after_load node) s.segments) (layout_after channel notes note.by (layout_of channel notes) (Load segment node))
       (λ key. ap (ended key) e) (ap (layout_after channel notes note.by (layout_of channel notes)) e) refl
-      (ap (moved segment (homes_after_load node)) shows ∙ moved_shown notes segment (homes_after_load node) (layout_of channel notes).segments)
+      (ap (rehomed segment (homes_after_load node)) shows ∙ moved_shown notes segment (homes_after_load node) (layout_of channel notes).segments)
 
-  pub released : (segment node : ℕ) → note.kind ≡ Release segment node → IsBehind channel (notes ++ note ∷ []) [] [] (record { tail = s.tail; segments = moved segment (homes_after_release node) s.segments })
-  released segment node e = then (moved segment (homes_after_release node) s.segments) (layout_after channel notes note.by (layout_of channel notes) (Release segment node))
+  pub released : (segment node : ℕ) → note.kind ≡ Release segment node → IsBehind channel (notes ++ note ∷ []) [] [] (record { tail = s.tail; segments = rehomed segment (homes_after_release node) s.segments })
+  released segment node e = then (rehomed segment (homes_after_release node) s.segments) (layout_after channel notes note.by (layout_of channel notes) (Release segment node))
       (λ key. ap (ended key) e) (ap (layout_after channel notes note.by (layout_of channel notes)) e) refl
-      (ap (moved segment (homes_after_release node)) shows ∙ moved_shown notes segment (homes_after_release node) (layout_of channel notes).segments)
+      (ap (rehomed segment (homes_after_release node)) shows ∙ moved_shown notes segment (homes_after_release node) (layout_of channel notes).segments)
 
   same_tail : (sources : List ℕ) (segment : Option ℕ) (node : ℕ) → (after_merge notes note.by (layout_of channel notes) sources segment node).tail ≡ (layout_of channel notes).tail
   same_tail sources None node = refl
@@ -127,10 +130,10 @@ module _ (channel : Channel) (notes : List Note) (note : Note) (s : Shelves) (k 
 
 pub behind_none : (channel : Channel) → IsBehind channel [] [] [] no_shelves
 unfolding layout_of
-behind_none channel = record { rows = tt; died = tt; apart = tt; is = refl }
+behind_none channel = record { rows = tt; died = tt; once = once_none; is = refl }
 
-pub behind_next : (channel : Channel) (notes : List Note) (p : Pending) (pending : List Pending) (deaths : List (ℕ × ℕ)) (s : Shelves) → IsBehind channel notes (p ∷ pending) deaths s → IsBehind channel notes pending deaths (after_pending notes s p)
-behind_next channel notes p pending deaths s k = record { rows = k.rows.1; died = k.died; apart = k.apart; is = k.is }
+pub behind_next : (channel : Channel) (notes : List Note) (p : Pending) (pending : List Pending) (deaths : List (ℕ × Timestamp)) (s : Shelves) → IsBehind channel notes (p ∷ pending) deaths s → IsBehind channel notes pending deaths (after_pending notes s p)
+behind_next channel notes p pending deaths s k = record { rows = k.rows.1; died = k.died; once = k.once; is = k.is }
 
-pub behind_marked : (channel : Channel) (notes : List Note) (deaths : List (ℕ × ℕ)) (s : Shelves) → IsBehind channel notes [] deaths s → IsBehind channel notes [] [] (with_ends deaths s)
+pub behind_marked : (channel : Channel) (notes : List Note) (deaths : List (ℕ × Timestamp)) (s : Shelves) → IsBehind channel notes [] deaths s → IsBehind channel notes [] [] (with_ends deaths s)
 behind_marked channel notes deaths s k = brought_up channel notes (with_ends deaths s) k.is

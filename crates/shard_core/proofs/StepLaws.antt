@@ -17,15 +17,18 @@ use Rattle.journal_model.specs.Views.{Shown, shown}
 use Rattle.journal_model.proofs.PutLaws.{put_at-append, put_at-new, put_within, dead_at-new}
 use Rattle.journal_model.proofs.IndexLaws.{effective_position}
 use Rattle.journal_model.proofs.LayoutLaws.{layout-snoc}
+use Rattle.seg_sealed.specs.Parts.{shown_as}
+use Rattle.channel_pieces.specs.Pieces.{death_in, marked_by}
+use Rattle.hybrid_time.specs.declared.times.Timestamp.{Timestamp}
 use Rattle.shard_core.specs.declared.pending.Pending.{Pending}
 use Rattle.shard_core.specs.declared.pending.Pending.TheVariants.{Row, Closed}
 use Rattle.shard_core.specs.Shelves.{Shelves, shelf_of, shelves_in}
-use Rattle.shard_core.specs.Steps.{unmarked, with_shown, with_closed, after_pending, after_all, end_of, with_end, with_ends, closed_with, closed_full, closed_by, pending_row, pending_end, pending_of, deaths_of, is_move}
+use Rattle.shard_core.specs.Steps.{with_shown, with_closed, after_pending, after_all, with_ends, closed_with, closed_full, closed_by, pending_row, pending_end, pending_of, deaths_of, is_move}
 use Rattle.shard_core.specs.Lagging.{IsPut, IsBehind}
-use Rattle.shard_core.proofs.MarkLaws.{end_of-append, deaths_later, apart_later, no_end_new, no_end_own}
+use Rattle.shard_core.proofs.MarkLaws.{death_in-append, deaths_later, once_later, no_end_new, no_end_own}
 use Rattle.shard_core.proofs.ShelfLaws.{ends-append, shelves_later, all-append, all_stay, ends_shown, ends_closed, shelves_closed}
 
-module _ (channel : Channel) (notes : List Note) (note : Note) (pending : List Pending) (deaths : List (ℕ × ℕ)) (s : Shelves) (k : IsBehind channel notes pending deaths s) (correct : AreCorrect notes (all_rows (layout_of channel notes))) where
+module _ (channel : Channel) (notes : List Note) (note : Note) (pending : List Pending) (deaths : List (ℕ × Timestamp)) (s : Shelves) (k : IsBehind channel notes pending deaths s) (correct : AreCorrect notes (all_rows (layout_of channel notes))) where
   -- what was pending, with the deaths and the note's own
   before : with_ends (deaths ++ deaths_of notes note.kind) (after_all notes s pending) ≡ shelves_in (notes ++ note ∷ []) (layout_of channel notes)
   before =
@@ -34,12 +37,12 @@ module _ (channel : Channel) (notes : List Note) (note : Note) (pending : List P
       ∙ shelves_later notes note (layout_of channel notes) correct
 
   -- the row that the note adds is alive
-  new_row : (x : Placed) → effective notes note.kind ≡ Some x → with_end (deaths ++ deaths_of notes note.kind) (unmarked x) ≡ shown (notes ++ note ∷ []) x
+  new_row : (x : Placed) → effective notes note.kind ≡ Some x → marked_by (deaths ++ deaths_of notes note.kind) (shown_as x None) ≡ shown (notes ++ note ∷ []) x
   new_row x e =
       let at : x.position ≡ length notes = effective_position notes note.kind x e in
       ap (λ (m : Option ℕ). record { position = x.position; ts = x.ts; row = x.row; mark = m })
-      (ap (end_of (deaths ++ deaths_of notes note.kind)) at
-      ∙ end_of-append deaths (deaths_of notes note.kind) (length notes)
+      (ap (death_in (deaths ++ deaths_of notes note.kind)) at
+      ∙ death_in-append deaths (deaths_of notes note.kind) (length notes)
       ∙ ap₂ (λ (o p : Option ℕ). option_or o p) (no_end_new notes deaths k.died) (no_end_own notes note.kind)
       ∙ sym (ap (λ p. death (notes ++ note ∷ []) (record { position = p; ts = x.ts; row = x.row })) at ∙ dead_at-new notes note x.row.key.0))
 
@@ -112,7 +115,7 @@ module _ (channel : Channel) (notes : List Note) (note : Note) (pending : List P
   noted stays = record {
     rows = rows_then;
     died = deaths_later notes note deaths k.died;
-    apart = apart_later notes note deaths k.died k.apart;
+    once = once_later notes note deaths k.died k.once;
     is =
         ap (with_ends (deaths ++ deaths_of notes note.kind)) (all-append (notes ++ note ∷ []) pending (pending_of channel notes note.kind) s
         ∙ ap (λ z. after_all (notes ++ note ∷ []) z (pending_of channel notes note.kind)) (all_stay notes (note ∷ []) pending s k.rows))

@@ -1,6 +1,7 @@
 -- What is still to be brought up in pieces that lag behind their journal, and what each note adds to that.
 use Rattle.std.specs.Prelude.{ℕ, nat_eq, Bool, true, false, if◌then◌else◌, option_to_list, List, [], ◌∷◌, ◌++◌, map, length, Option, Some, None}
-use Rattle.std.specs.Option.{option_or}
+use Rattle.std.specs.Option.{option_map}
+use Rattle.hybrid_time.specs.declared.times.Timestamp.{Timestamp}
 use Rattle.log_model.specs.Places.{Placed}
 use Rattle.journal_model.specs.declared.notes.Home.TheVariants.{Leader}
 use Rattle.journal_model.specs.declared.notes.Kind.{Kind}
@@ -9,19 +10,17 @@ use Rattle.journal_model.specs.declared.notes.Note.{Note}
 use Rattle.journal_model.specs.Puts.{effective, effective_put, put_at}
 use Rattle.journal_model.specs.Tables.{ends}
 use Rattle.journal_model.specs.Layouts.{Channel, Layout, number_at, layout_of}
-use Rattle.journal_model.specs.Views.{Shown}
+use Rattle.seg_sealed.specs.Parts.{shown_as}
+use Rattle.channel_pieces.specs.Pieces.{marked_by, segment_marked}
 use Rattle.shard_core.specs.declared.pending.Pending.{Pending}
 use Rattle.shard_core.specs.declared.pending.Pending.TheVariants.{Row, Closed}
-use Rattle.shard_core.specs.Shelves.{Shelf, Shelves}
+use Rattle.shard_core.specs.Shelves.{Shelves}
 
 -- ---- rows and boundaries that are pending
 
-abbrev pub unmarked : Placed → Shown
-unmarked x = record { position = x.position; ts = x.ts; row = x.row; mark = None }
-
 abbrev pub with_shown : Shelves → Option Placed → Shelves
 with_shown s None = s
-with_shown s (Some x) = record { tail = s.tail ++ unmarked x ∷ []; segments = s.segments }
+with_shown s (Some x) = record { tail = s.tail ++ shown_as x None ∷ []; segments = s.segments }
 
 -- the tail becomes a segment at the leader
 abbrev pub with_closed : Shelves → ℕ → Shelves
@@ -38,23 +37,12 @@ after_all notes s (p ∷ pending) = after_all notes (after_pending notes s p) pe
 
 -- ---- deaths that are no marks yet
 
--- when the row at a position died, by some deaths: positions, and when
-abbrev pub end_of : List (ℕ × ℕ) → ℕ → Option ℕ
-end_of [] position = None
-end_of (d ∷ deaths) position = if nat_eq d.0 position then Some d.1 else end_of deaths position
-
--- a row that has no mark is marked where it died
-abbrev pub with_end : List (ℕ × ℕ) → Shown → Shown
-with_end deaths s = record { position = s.position; ts = s.ts; row = s.row; mark = option_or s.mark (end_of deaths s.position) }
-
-abbrev pub shelf_with_ends : List (ℕ × ℕ) → Shelf → Shelf
-shelf_with_ends deaths s = record { number = s.number; homes = s.homes; rows = map (with_end deaths) s.rows }
-
-abbrev pub with_ends : List (ℕ × ℕ) → Shelves → Shelves
-with_ends deaths s = record { tail = map (with_end deaths) s.tail; segments = map (shelf_with_ends deaths) s.segments }
+-- the rows of tail and segments after some deaths: a row that has no mark gets that of its death
+abbrev pub with_ends : List (ℕ × Timestamp) → Shelves → Shelves
+with_ends deaths s = record { tail = map (marked_by deaths) s.tail; segments = map (segment_marked deaths) s.segments }
 
 -- all that is pending in its order, then the deaths
-abbrev pub caught_up : List Note → List Pending → List (ℕ × ℕ) → Shelves → Shelves
+abbrev pub caught_up : List Note → List Pending → List (ℕ × Timestamp) → Shelves → Shelves
 caught_up notes pending deaths s = with_ends deaths (after_all notes s pending)
 
 -- ---- what a note adds
@@ -84,9 +72,12 @@ pending_end (Some number) = Closed number ∷ []
 abbrev pub pending_of : Channel → List Note → Kind → List Pending
 pending_of channel notes kind = pending_row (effective notes kind) ++ pending_end (closed_by channel notes kind)
 
--- the row that a note ends
-abbrev pub deaths_of : List Note → Kind → List (ℕ × ℕ)
-deaths_of notes kind = option_to_list (ends notes kind)
+abbrev pub dated : ℕ × ℕ → ℕ × Timestamp
+dated end = (end.0, record { 0 = end.1 })
+
+-- the row that a note ends, and when
+abbrev pub deaths_of : List Note → Kind → List (ℕ × Timestamp)
+deaths_of notes kind = option_to_list (option_map dated (ends notes kind))
 
 -- a note that changes segments that are there
 abbrev pub is_move : Kind → Bool

@@ -13,9 +13,11 @@ ghost use Rattle.journal_model.specs.Runs.{State, IsSound};
 ghost use Rattle.journal_model.specs.Views.{IsExact, ShowsLive, view_of};
 ghost use Rattle.shard_core.specs.declared.pending.Pending.{Pending};
 ghost use Rattle.shard_core.specs.declared.pending.Pending.TheVariants.{Row, Closed};
-ghost use Rattle.shard_core.specs.Shelves.{Shelves, no_shelves, shelves_of, seen_in, moved, product_of, merged_shelves};
+ghost use Rattle.shard_core.specs.Shelves.{Shelves, no_shelves, shelves_of, seen_in, product_of, merged_shelves};
+ghost use Rattle.hybrid_time.specs.declared.times.Timestamp.{Timestamp};
+ghost use Rattle.channel_pieces.specs.Pieces.{placed_of, rehomed};
 ghost use Rattle.shard_core.specs.Steps.{pending_of, deaths_of, is_move, after_pending, with_ends, caught_up};
-ghost use Rattle.shard_core.specs.Lagging.{IsBehind, place_of, Fits, Closes, homes_with, is_there_with};
+ghost use Rattle.shard_core.specs.Lagging.{IsBehind, Fits, Closes, homes_with, is_there_with};
 
 /// What a note changes of what a channel shows: its row joins the tail, its boundary closes it, and the
 /// row that it ends is marked. So, where pieces lag behind, the pieces stay as they are: the row and
@@ -24,7 +26,7 @@ pub fn notes()
     ensures shown { (channel : Channel) (s : State) (note : Note) → IsSound channel s → is_move note.kind ≡ false
         → caught_up (s.notes ++ note ∷ []) (pending_of channel s.notes note.kind) (deaths_of s.notes note.kind) (shelves_of channel s.notes)
         ≡ shelves_of channel (s.notes ++ note ∷ []) }
-    ensures noted { (channel : Channel) (s : State) (note : Note) (pending : List Pending) (deaths : List (ℕ × ℕ)) (pieces : Shelves)
+    ensures noted { (channel : Channel) (s : State) (note : Note) (pending : List Pending) (deaths : List (ℕ × Timestamp)) (pieces : Shelves)
         → IsSound channel s → IsBehind channel s.notes pending deaths pieces → is_move note.kind ≡ false
         → IsBehind channel (s.notes ++ note ∷ []) (pending ++ pending_of channel s.notes note.kind) (deaths ++ deaths_of s.notes note.kind) pieces }
 {}
@@ -34,14 +36,14 @@ pub fn notes()
 /// with rows and a number above all others. At the end the pieces show the journal.
 pub fn catching_up()
     ensures start { (channel : Channel) → IsBehind channel [] [] [] no_shelves }
-    ensures next { (channel : Channel) (notes : List Note) (p : Pending) (pending : List Pending) (deaths : List (ℕ × ℕ)) (pieces : Shelves)
+    ensures next { (channel : Channel) (notes : List Note) (p : Pending) (pending : List Pending) (deaths : List (ℕ × Timestamp)) (pieces : Shelves)
         → IsBehind channel notes (p ∷ pending) deaths pieces → IsBehind channel notes pending deaths (after_pending notes pieces p) }
-    ensures row { (channel : Channel) (s : State) (position : ℕ) (pending : List Pending) (deaths : List (ℕ × ℕ)) (pieces : Shelves) → 0 < channel.seal_rows
+    ensures row { (channel : Channel) (s : State) (position : ℕ) (pending : List Pending) (deaths : List (ℕ × Timestamp)) (pieces : Shelves) → 0 < channel.seal_rows
         → IsSound channel s → IsBehind channel s.notes (Row position ∷ pending) deaths pieces
-        → (x : Placed) × (put_at s.notes position ≡ Some x) × Fits channel s.notes (map place_of pieces.tail ++ x ∷ []) }
-    ensures boundary { (channel : Channel) (s : State) (number : ℕ) (pending : List Pending) (deaths : List (ℕ × ℕ)) (pieces : Shelves)
+        → (x : Placed) × (put_at s.notes position ≡ Some x) × Fits channel s.notes (map placed_of pieces.tail ++ x ∷ []) }
+    ensures boundary { (channel : Channel) (s : State) (number : ℕ) (pending : List Pending) (deaths : List (ℕ × Timestamp)) (pieces : Shelves)
         → IsSound channel s → IsBehind channel s.notes (Closed number ∷ pending) deaths pieces → Closes channel s.notes pieces number }
-    ensures marked { (channel : Channel) (notes : List Note) (deaths : List (ℕ × ℕ)) (pieces : Shelves)
+    ensures marked { (channel : Channel) (notes : List Note) (deaths : List (ℕ × Timestamp)) (pieces : Shelves)
         → IsBehind channel notes [] deaths pieces → IsBehind channel notes [] [] (with_ends deaths pieces) }
     ensures all { (channel : Channel) (notes : List Note) (pieces : Shelves) → IsBehind channel notes [] [] pieces → pieces ≡ shelves_of channel notes }
 {}
@@ -60,14 +62,14 @@ pub fn looks()
 /// The homes of segments are those of the pieces, and the leader for a boundary that is pending. On
 /// pieces that are brought up a load, a release and a merge change the segments as their notes say.
 pub fn moves()
-    ensures there { (channel : Channel) (notes : List Note) (pending : List Pending) (deaths : List (ℕ × ℕ)) (pieces : Shelves) (number : ℕ)
+    ensures there { (channel : Channel) (notes : List Note) (pending : List Pending) (deaths : List (ℕ × Timestamp)) (pieces : Shelves) (number : ℕ)
         → IsBehind channel notes pending deaths pieces → is_there_with pieces.segments pending number ≡ is_there (layout_of channel notes) number }
-    ensures homes { (channel : Channel) (notes : List Note) (pending : List Pending) (deaths : List (ℕ × ℕ)) (pieces : Shelves) (number : ℕ)
+    ensures homes { (channel : Channel) (notes : List Note) (pending : List Pending) (deaths : List (ℕ × Timestamp)) (pieces : Shelves) (number : ℕ)
         → IsBehind channel notes pending deaths pieces → homes_with pieces.segments pending number ≡ homes_in (layout_of channel notes).segments number }
     ensures load { (channel : Channel) (notes : List Note) (note : Note) (segment node : ℕ) (pieces : Shelves) → note.kind ≡ Load segment node → IsBehind channel notes [] [] pieces
-        → IsBehind channel (notes ++ note ∷ []) [] [] (record { tail = pieces.tail; segments = moved segment (homes_after_load node) pieces.segments }) }
+        → IsBehind channel (notes ++ note ∷ []) [] [] (record { tail = pieces.tail; segments = rehomed segment (homes_after_load node) pieces.segments }) }
     ensures release { (channel : Channel) (notes : List Note) (note : Note) (segment node : ℕ) (pieces : Shelves) → note.kind ≡ Release segment node → IsBehind channel notes [] [] pieces
-        → IsBehind channel (notes ++ note ∷ []) [] [] (record { tail = pieces.tail; segments = moved segment (homes_after_release node) pieces.segments }) }
+        → IsBehind channel (notes ++ note ∷ []) [] [] (record { tail = pieces.tail; segments = rehomed segment (homes_after_release node) pieces.segments }) }
     ensures merge { (channel : Channel) (notes : List Note) (note : Note) (sources : List ℕ) (segment : Option ℕ) (node : ℕ) (pieces : Shelves)
         → note.kind ≡ Merge sources segment node → IsBehind channel notes [] [] pieces
         → (let product = product_of notes note.by (layout_of channel notes) sources segment in

@@ -1,0 +1,4 @@
+pub mod Outcomes
+pub mod Notes
+pub mod Kept
+pub mod Fields

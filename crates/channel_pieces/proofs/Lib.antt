@@ -1,0 +1,5 @@
+pub mod DeathLaws
+pub mod MarkLaws
+pub mod PieceLaws
+pub mod ListLaws
+pub mod HomeLaws
