@@ -29,6 +29,10 @@ use Rattle.shard_core.specs.Steps.{closed_with, closed_full, closed_by, pending_
 use Rattle.shard_core.specs.Told.{pending_told, deaths_told}
 use Rattle.shard_core.specs.Kept.{IsPutIn, LaggingPieces, HasShape, kinds_in, IsChannel, HasRoom, KeepsShard}
 use Rattle.shard_core.specs.Shards.{ChannelShard, Steps}
+use Rattle.row_types.specs.declared.rows.Kind.{Kind as ColumnKind}
+use Rattle.coarse_lists.specs.Collections.{IsInRange}
+use Rattle.channel_pieces.specs.Pieces.{MarkedLayout, no_pieces}
+use Rattle.shard_core.proofs.MoveLaws.{behind_none}
 use Rattle.shard_core.proofs.StepLaws.{noted}
 
 pub kept_note : (collection : Collection) (j k : ChannelJournal) (l m : LaggingPieces) (note : Note) → KeepsShard collection j l → IsSound j.channel j.state → IsPutIn collection note.kind → is_move note.kind ≡ false → Appends j k note
@@ -127,3 +131,27 @@ end_told notes kind ts ended e = told ended ∙ ap (λ o. option_to_list (option
     told : (o : Option ℕ) → deaths_told ts o ≡ option_to_list (option_map dated (ended_at ts.0 o))
     told None = refl
     told (Some position) = refl
+
+-- ---- a shard without notes
+
+pub started : (collection : Collection) (channel dim nodes rows : ℕ) (kinds : List ColumnKind) (j : ChannelJournal) (l : LaggingPieces) (pieces : MarkedLayout) → IsInRange collection → channel < collection.channels
+    → dim ≡ collection.dim → nodes ≡ collection.nodes → rows ≡ collection.seal_rows → kinds ≡ kinds_in collection.schema.columns
+    → j.channel ≡ record { number = channel; seal_rows = rows } → j.state ≡ record { notes = []; floor = 0 }
+    → l ≡ record { pieces = pieces; pending = []; deaths = []; room = 0 } → pieces ≡ no_pieces dim kinds nodes
+    → HasRoom 0 (length j.state.notes) j.spare l.room × KeepsShard collection j l
+started collection channel dim nodes rows kinds j l pieces range low d n r k ch st la pi =
+    let most : collection.channels ≤ 16 = range.channels.1 in
+    let least : 2 ≤ collection.seal_rows = range.seal_rows.0 in
+    let top : collection.seal_rows ≤ 65536 = range.seal_rows.1 in
+    let none : length j.state.notes ≡ 0 = ap (λ (s : State). length s.notes) st in
+    let shows : l.pieces ≡ no_pieces dim kinds nodes = ap (λ (m : LaggingPieces). m.pieces) la ∙ pi in (
+      record { few = omega arith; for_notes = omega arith; for_pending = omega arith },
+      record {
+        range = range;
+        channel = subst IsChannel (sym ch) (record { low = omega arith; least = omega arith; most = omega arith });
+        seal = ap (λ (c : Channel). c.seal_rows) ch ∙ r;
+        puts = subst (λ (s : State). AllByRecursion (λ n. IsPutIn collection n.kind) s.notes) (sym st) tt;
+        shape = subst (HasShape collection.dim (kinds_in collection.schema.columns) collection.nodes) (sym shows) (record { dim_is = d; kinds_are = k; nodes_are = n });
+        behind = rw (st, la, pi) (behind_none j.channel);
+      },
+    )

@@ -136,21 +136,24 @@ death_stays notes note d h = (h.0, put_at-append notes (note ∷ []) d.0 (dies_w
 pub death_new : (notes : List Note) (note : Note) (d : ℕ × ℕ) → ends notes note.kind ≡ Some d → IsDeath (notes ++ note ∷ []) (dated d)
 death_new notes note d e =
     let ended = ends_alive notes note.kind d e in
-    let put : put_at notes ended.row.position ≡ Some ended.row = ap (put_at notes) ended.at ∙ ended.put in
-    (ended.row, put_at-append notes (note ∷ []) d.0 (put_within notes ended.row d.0 ended.put) ∙ ended.put,
-    sym (row_later notes note ended.row put)
-    ∙ ap (λ o. option_or o (death_in (deaths_of notes note.kind) ended.row.position)) ended.alive
-    ∙ ap (λ o. death_in (option_to_list (option_map dated o)) ended.row.position) e
-    ∙ ap (λ b. option_map (λ (t : Timestamp). t.0) (cond b (Some (record { 0 = d.1 })) None)) (eq-eqb ended.row.position d.0 ended.at))
+    let put : put_at notes ended.row.position ≡ Some ended.row = ap (put_at notes) ended.at ∙ ended.put in (
+      ended.row,
+      put_at-append notes (note ∷ []) d.0 (put_within notes ended.row d.0 ended.put) ∙ ended.put,
+      sym (row_later notes note ended.row put)
+          ∙ ap (λ o. option_or o (death_in (deaths_of notes note.kind) ended.row.position)) ended.alive
+          ∙ ap (λ o. death_in (option_to_list (option_map dated o)) ended.row.position) e
+          ∙ ap (λ b. option_map (λ (t : Timestamp). t.0) (cond b (Some (record { 0 = d.1 })) None)) (eq-eqb ended.row.position d.0 ended.at),
+    )
 
 other_places : (notes : List Note) (d : ℕ × ℕ) → Ends notes d → (ds : List (ℕ × Timestamp)) → AllByRecursion (IsDeath notes) ds → AllByRecursion (λ e. d.0 ≢ e.0) ds
 other_places notes d ended [] a = tt
-other_places notes d ended (e ∷ ds) a =
-    ((λ same.
-    let is : a.0.0 ≡ ended.row = same_row notes d.0 e.0 ended.row a.0.0 ended.put a.0.1 same in
-    let none : Some e.1.0 ≡ None = sym a.0.2 ∙ ap (death notes) is ∙ ended.alive in
-    cc),
-    other_places notes d ended ds a.1)
+other_places notes d ended (e ∷ ds) a = (
+  (λ same.
+      let is : a.0.0 ≡ ended.row = same_row notes d.0 e.0 ended.row a.0.0 ended.put a.0.1 same in
+      let none : Some e.1.0 ≡ None = sym a.0.2 ∙ ap (death notes) is ∙ ended.alive in
+      cc),
+  other_places notes d ended ds a.1,
+)
 
 pub once_none : AreOnce []
 unfolding IsDistinct
@@ -160,8 +163,9 @@ once_push : (ds : List (ℕ × Timestamp)) (d : ℕ × Timestamp) → AreOnce ds
 unfolding IsDistinct
 once_push [] d a f = (tt, tt)
 once_push (e ∷ ds) d a f = (
-    subst (AllByRecursion (λ p. nat_eq e.0 p ≡ false)) (sym (map-append (λ (g : ℕ × Timestamp). g.0) ds (d ∷ []))) (each_push (λ p. nat_eq e.0 p ≡ false) (map (λ (g : ℕ × Timestamp). g.0) ds) d.0 a.0 (ne_eqb e.0 d.0 (λ h. f.0 (sym h)))),
-    once_push ds d a.1 f.1)
+  subst (AllByRecursion (λ p. nat_eq e.0 p ≡ false)) (sym (map-append (λ (g : ℕ × Timestamp). g.0) ds (d ∷ []))) (each_push (λ p. nat_eq e.0 p ≡ false) (map (λ (g : ℕ × Timestamp). g.0) ds) d.0 a.0 (ne_eqb e.0 d.0 (λ h. f.0 (sym h)))),
+  once_push ds d a.1 f.1,
+)
 
 pub deaths_later : (notes : List Note) (note : Note) (ds : List (ℕ × Timestamp)) → AllByRecursion (IsDeath notes) ds → AllByRecursion (IsDeath (notes ++ note ∷ [])) (ds ++ deaths_of notes note.kind)
 deaths_later notes note ds a = go (ends notes note.kind) refl

@@ -189,12 +189,7 @@ fn drop_front(pending: &mut Vec<Pending>, n: usize)
 }
 
 /// Applies what is pending, from the front on, as far as the memory goes. How many were applied.
-fn apply_some(
-    alloc: Global,
-    journal: &Journal,
-    pieces: &mut Pieces,
-    pending: &[Pending],
-) -> usize
+fn apply_some(alloc: Global, journal: &Journal, pieces: &mut Pieces, pending: &[Pending]) -> usize
     requires source { IsSource journal.now pieces.old }
     requires pends { Pends journal.now.channel journal.now.state.notes pending.now (shelves_in_pieces pieces.old) }
     ensures count { result ≤ length pending.now }

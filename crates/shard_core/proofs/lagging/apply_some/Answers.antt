@@ -37,15 +37,16 @@ pending-preserved c =
     let rest = drop (i + 1) c.args.pending.now in
     let more : drop i c.args.pending.now ≡ next ∷ rest = drop_more c.args.pending.now i (Row 0) c.pending-test.true in
     let shows : shelves_in_pieces c.apply.new.pieces ≡ after_pending notes (shelves_in_pieces c.pending.pieces) next = ok_holds c.apply.result (sym c.is_err.ensures.value ∙ c.if-is_err.false) c.apply.ensures.ok in
-    let k : Pends c.args.journal.now.channel notes (next ∷ rest) (shelves_in_pieces c.pending.pieces) = subst (λ l. Pends c.args.journal.now.channel notes l (shelves_in_pieces c.pending.pieces)) more c.pending.invariant.1 in
-    (ap (λ n. n + 1) c.pending.invariant.0,
-    record { deaths = k.deaths; behind = subst (λ s. IsBehind c.args.journal.now.channel notes rest k.deaths s) (sym shows) (behind_next c.args.journal.now.channel notes next rest k.deaths (shelves_in_pieces c.pending.pieces) k.behind) },
-    ap (λ s. after_all notes s rest) shows ∙ ap (after_all notes (shelves_in_pieces c.pending.pieces)) (sym more) ∙ c.pending.invariant.2,
-    record {
-      dim_is = c.apply.ensures.shape.dim_is ∙ c.pending.invariant.3.dim_is;
-      kinds_are = c.apply.ensures.shape.kinds_are ∙ c.pending.invariant.3.kinds_are;
-      nodes_are = c.apply.ensures.shape.nodes_are ∙ c.pending.invariant.3.nodes_are;
-    })
+    let k : Pends c.args.journal.now.channel notes (next ∷ rest) (shelves_in_pieces c.pending.pieces) = subst (λ l. Pends c.args.journal.now.channel notes l (shelves_in_pieces c.pending.pieces)) more c.pending.invariant.1 in (
+      ap (λ n. n + 1) c.pending.invariant.0,
+      record { deaths = k.deaths; behind = subst (λ s. IsBehind c.args.journal.now.channel notes rest k.deaths s) (sym shows) (behind_next c.args.journal.now.channel notes next rest k.deaths (shelves_in_pieces c.pending.pieces) k.behind) },
+      ap (λ s. after_all notes s rest) shows ∙ ap (after_all notes (shelves_in_pieces c.pending.pieces)) (sym more) ∙ c.pending.invariant.2,
+      record {
+        dim_is = c.apply.ensures.shape.dim_is ∙ c.pending.invariant.3.dim_is;
+        kinds_are = c.apply.ensures.shape.kinds_are ∙ c.pending.invariant.3.kinds_are;
+        nodes_are = c.apply.ensures.shape.nodes_are ∙ c.pending.invariant.3.nodes_are;
+      },
+    )
 
 pub returns-clause-rest : goal.returns-clause-rest
 returns-clause-rest c =
