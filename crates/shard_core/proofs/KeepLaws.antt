@@ -1,5 +1,5 @@
 -- Each call keeps the shard: one note more, what its journal told is pending, and its death is open.
-use Rattle.std.proofs.Common.{◌≡◌, ℕ, ◌+◌, ◌-◌, ◌^◌, ◌<◌, ◌≤◌, Bool, true, false, cond, List, [], ◌∷◌, ◌++◌, length, Option, Some, None, refl, sym, ap, ap₂, subst, ◌∙◌, arith, append-nil}
+use Rattle.std.proofs.Common.{◌≡◌, ℕ, ◌+◌, ◌-◌, ◌^◌, ◌<◌, ◌≤◌, true, false, cond, List, [], ◌∷◌, ◌++◌, length, Option, Some, None, refl, sym, ap, ap₂, subst, ◌∙◌, arith, append-nil}
 use Rattle.std.specs.Prelude.{nat_eq, nat_lt, option_to_list}
 use Rattle.std.specs.List.{AllByRecursion}
 use Rattle.std.specs.Option.{option_map}
@@ -23,7 +23,6 @@ use Rattle.channel_journal.specs.declared.outcomes.PutOutcome.{PutOutcome}
 use Rattle.channel_journal.specs.declared.outcomes.PutOutcome.TheVariants.{Exists, Added}
 use Rattle.channel_journal.specs.Notes.{ChannelJournal, Appends, number_taken, with_note}
 use Rattle.channel_journal.specs.Outcomes.{ended_at, added_row, sealed_number}
-use Rattle.shard_core.specs.declared.pending.Pending.{Pending}
 use Rattle.shard_core.specs.Shelves.{shelves_in_pieces}
 use Rattle.shard_core.specs.Steps.{closed_with, closed_full, closed_by, pending_row, pending_end, pending_of, dated, deaths_of, is_move}
 use Rattle.shard_core.specs.Told.{pending_told, deaths_told}

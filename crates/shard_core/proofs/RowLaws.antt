@@ -1,11 +1,10 @@
 -- The rows of pieces that are brought up are rows of the collection.
-use Rattle.std.proofs.Common.{◌≡◌, ℕ, ◌<◌, List, [], ◌∷◌, ◌++◌, map, length, take, suc, Option, Some, None, refl, sym, ap, subst, ◌∙◌, arith}
+use Rattle.std.proofs.Common.{◌≡◌, ℕ, List, [], ◌∷◌, map, take, suc, Option, Some, None, refl, sym, ap, subst, ◌∙◌}
 use Rattle.std.specs.Prelude.{slice_get}
 use Rattle.std.specs.List.{AllByRecursion}
 use Rattle.std.specs.Option.{option_and_then}
-use Rattle.log_model.specs.Places.{Placed, placed}
+use Rattle.log_model.specs.Places.{Placed}
 use Rattle.log_model.proofs.LogLaws.{each-append}
-use Rattle.row_types.specs.declared.rows.Row.{Row}
 use Rattle.coarse_lists.specs.declared.collections.Collection.{Collection}
 use Rattle.coarse_lists.specs.Collections.{IsRowOf}
 use Rattle.journal_model.specs.declared.notes.Home.{Home}
@@ -13,14 +12,14 @@ use Rattle.journal_model.specs.declared.notes.Kind.{Kind}
 use Rattle.journal_model.specs.declared.notes.Kind.TheVariants.{Put}
 use Rattle.journal_model.specs.declared.notes.Note.{Note}
 use Rattle.journal_model.specs.Lists.{IsIn}
-use Rattle.journal_model.specs.Puts.{effective, effective_put, put_at}
+use Rattle.journal_model.specs.Puts.{effective, put_at}
 use Rattle.journal_model.specs.Layouts.{Channel, Segment, rows_in, layout_of}
 use Rattle.journal_model.specs.Runs.{AreCorrect, all_rows}
 use Rattle.journal_model.specs.Views.{Shown, shown}
 use Rattle.journal_model.proofs.CutLaws.{each_get}
 use Rattle.journal_model.proofs.ListLaws.{in_left, in_right, all_from}
 use Rattle.seg_sealed.specs.Parts.{SegmentPart, shown_from, shown_rows}
-use Rattle.channel_pieces.specs.Pieces.{MarkedSegment, placed_of, places_of}
+use Rattle.channel_pieces.specs.Pieces.{placed_of, places_of}
 use Rattle.channel_view.specs.Views.{AreRowsOf}
 use Rattle.shard_core.specs.Shelves.{shelf_of}
 use Rattle.shard_core.specs.Kept.{IsPutIn}

@@ -1,27 +1,26 @@
 -- A row that is pending is read from its note, and fits the pieces; a number that was taken is low.
-use Rattle.std.proofs.Common.{◌≡◌, ℕ, ◌+◌, ◌*◌, ◌^◌, ◌<◌, ◌≤◌, Bool, true, false, cond, ◌&&◌, List, [], ◌∷◌, ◌++◌, map, length, take, drop, zero, suc, Option, Result, Ok, Err, Some, None, refl, sym, ap, ap₂, subst, ◌∙◌, inl, arith, slice_index_or}
+use Rattle.std.proofs.Common.{◌≡◌, ℕ, ◌+◌, ◌*◌, ◌^◌, ◌<◌, ◌≤◌, true, false, cond, List, [], ◌∷◌, ◌++◌, map, length, take, drop, zero, suc, Option, Result, Ok, Err, Some, None, refl, sym, ap, subst, ◌∙◌, inl, arith}
 use Rattle.std.specs.Prelude.{slice_get, nat_eq, is_err, OnOk, OnErr}
 use Rattle.std.specs.List.{AllByRecursion}
 use Rattle.std.specs.Option.{option_and_then}
 use Rattle.std.specs.FinMap as fin
 use Rattle.std.proofs.lemmas.Bool.{false≢true}
-use Rattle.std.proofs.lemmas.List.{length-take-le, length-append, length-map, length_push, drop_more}
+use Rattle.std.proofs.lemmas.List.{length-take-le, length_push}
 use Rattle.log_model.specs.Places.{Placed, placed, PlacedBefore}
 use Rattle.row_types.specs.declared.rows.Row.{Row}
 use Rattle.row_types.specs.declared.rows.Kind.{Kind as ColumnKind}
 use Rattle.journal_model.specs.declared.notes.PutKind.{PutKind}
 use Rattle.journal_model.specs.declared.notes.PutKind.TheVariants.{Insert, Upsert}
 use Rattle.journal_model.specs.declared.notes.Kind.{Kind}
-use Rattle.journal_model.specs.declared.notes.Kind.TheVariants.{Put, Seal, Number, Load, Release, Merge}
+use Rattle.journal_model.specs.declared.notes.Kind.TheVariants.{Put, Seal, Merge}
 use Rattle.journal_model.specs.declared.notes.Note.{Note}
 use Rattle.journal_model.specs.Notes.{live_in}
 use Rattle.journal_model.specs.Journals.{IsJournal}
 use Rattle.journal_model.specs.Lists.{IsIn}
 use Rattle.journal_model.specs.Puts.{effective, effective_put, put_at}
-use Rattle.journal_model.specs.Layouts.{Channel, Layout, number_at, layout_after, layout_of, with_row, after_seal, after_merge, after_boundary, with_tail}
+use Rattle.journal_model.specs.Layouts.{Channel, Layout, layout_after, layout_of, with_row, after_boundary, with_tail}
 use Rattle.journal_model.specs.Invariants.{IsTaken}
 use Rattle.journal_model.specs.Runs.{Rise}
-use Rattle.journal_model.specs.Views.{Shown}
 use Rattle.journal_model.proofs.WalkLaws.{by_snoc}
 use Rattle.journal_model.proofs.PutLaws.{put_within}
 use Rattle.journal_model.proofs.CutLaws.{each_get}
@@ -30,13 +29,13 @@ use Rattle.journal_model.proofs.LayoutLaws.{layout-snoc}
 use Rattle.journal_model.proofs.ListLaws.{all_in, in_right}
 use Rattle.hybrid_time.specs.declared.times.Timestamp.{Timestamp}
 use Rattle.channel_journal.specs.Notes.{ChannelJournal}
-use Rattle.channel_pieces.specs.Pieces.{MarkedLayout, placed_of}
+use Rattle.channel_pieces.specs.Pieces.{MarkedLayout}
 use Rattle.shard_core.specs.declared.pending.Pending.{Pending}
 use Rattle.shard_core.specs.declared.pending.Pending.TheVariants.{Row as PendingRow, Closed}
-use Rattle.shard_core.specs.Shelves.{Shelves, shelves_in_pieces, shelves_of}
-use Rattle.shard_core.specs.Steps.{after_all, with_ends, after_pending}
-use Rattle.shard_core.specs.Lagging.{IsPut, IsBehind, Fits}
-use Rattle.shard_core.specs.Kept.{IsPutOf, ArePutsOf, IsShapedAs, IsChannel, IsSource, Pends, IsNext}
+use Rattle.shard_core.specs.Shelves.{Shelves, shelves_in_pieces}
+use Rattle.shard_core.specs.Steps.{after_all, with_ends}
+use Rattle.shard_core.specs.Lagging.{IsPut, IsBehind}
+use Rattle.shard_core.specs.Kept.{IsPutOf, ArePutsOf, IsShapedAs, IsSource, Pends, IsNext}
 use Rattle.shard_core.proofs.FrontLaws.{row_fits, end_fits}
 
 -- ---- results

@@ -1,10 +1,8 @@
 -- What a look needs of a shard: a source from which its pieces are brought up, and then the view that they give.
-use Rattle.std.proofs.Common.{◌≡◌, ℕ, ◌+◌, ◌^◌, ◌<◌, Bool, true, false, ◌&&◌, List, [], ◌∷◌, ◌++◌, map, length, refl, sym, ap, ap₂, subst, ◌∙◌, arith, leb-true}
+use Rattle.std.proofs.Common.{◌≡◌, ℕ, ◌+◌, ◌^◌, ◌<◌, true, ◌&&◌, List, [], ◌∷◌, map, length, refl, ap, ap₂, subst, ◌∙◌, arith, leb-true}
 use Rattle.std.specs.List.{AllByRecursion}
 use Rattle.std.proofs.lemmas.Bool.{false≢true, and_parts}
-use Rattle.log_model.specs.Places.{Placed, placed}
 use Rattle.log_model.proofs.LogLaws.{each_implied}
-use Rattle.row_types.specs.declared.rows.Row.{Row}
 use Rattle.row_types.specs.declared.rows.Kind.{Kind as ColumnKind}
 use Rattle.row_types.specs.declared.rows.Kind.TheVariants as kind
 use Rattle.row_types.specs.declared.rows.Field.{Field}
@@ -18,15 +16,14 @@ use Rattle.journal_model.specs.declared.notes.Note.{Note}
 use Rattle.journal_model.specs.Notes.{tick_of}
 use Rattle.journal_model.specs.Layouts.{Channel}
 use Rattle.journal_model.specs.Runs.{State, IsSound}
-use Rattle.journal_model.specs.Views.{Shown, View, view_of}
+use Rattle.journal_model.specs.Views.{Shown, view_of}
 use Rattle.seg_sealed.specs.Segments as sealed
-use Rattle.seg_sealed.specs.Parts.{SegmentPart, shown_from, shown_rows}
 use Rattle.channel_journal.specs.Notes.{ChannelJournal}
 use Rattle.channel_pieces.specs.Pieces.{MarkedLayout, places_of}
 use Rattle.channel_view.specs.Views.{ChannelView}
-use Rattle.shard_core.specs.Shelves.{Shelves, shelves_of, shelves_in_pieces, seen_in}
+use Rattle.shard_core.specs.Shelves.{shelves_of, shelves_in_pieces, seen_in}
 use Rattle.shard_core.specs.Lagging.{IsBehind}
-use Rattle.shard_core.specs.Kept.{kinds_in, IsPutOf, ArePutsOf, IsPutIn, LaggingPieces, IsSource, HasRoom, KeepsShard}
+use Rattle.shard_core.specs.Kept.{kinds_in, IsPutOf, IsPutIn, LaggingPieces, IsSource, HasRoom, KeepsShard}
 use Rattle.shard_core.specs.Shards.{ChannelShard, IsViewOf}
 use Rattle.shard_core.proofs.ShelfLaws.{view_seen}
 use Rattle.shard_core.proofs.MoveLaws.{shows_all}

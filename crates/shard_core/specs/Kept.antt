@@ -1,5 +1,5 @@
 -- What the types of this crate keep inside. Only proofs need it.
-use Rattle.std.specs.Prelude.{◌≡◌, ℕ, ◌+◌, ◌*◌, ◌^◌, ◌<◌, ◌≤◌, List, [], ◌∷◌, ◌++◌, map, length, Some}
+use Rattle.std.specs.Prelude.{◌≡◌, ℕ, ◌+◌, ◌^◌, ◌<◌, ◌≤◌, List, [], ◌∷◌, ◌++◌, map, length, Some}
 use Rattle.std.specs.List.{AllByRecursion}
 use Rattle.hybrid_time.specs.declared.times.Timestamp.{Timestamp}
 use Rattle.row_types.specs.declared.rows.Kind.{Kind as ColumnKind}
@@ -12,14 +12,13 @@ use Rattle.journal_model.specs.declared.notes.Kind.TheVariants.{Put}
 use Rattle.journal_model.specs.declared.notes.Note.{Note}
 use Rattle.journal_model.specs.Puts.{put_at}
 use Rattle.journal_model.specs.Layouts.{Channel}
-use Rattle.journal_model.specs.Runs.{State, IsSound}
+use Rattle.journal_model.specs.Runs.{IsSound}
 use Rattle.seg_sealed.specs.Segments as sealed
 use Rattle.channel_journal.specs.Notes.{ChannelJournal}
 use Rattle.channel_pieces.specs.Pieces.{MarkedLayout, placed_of}
 use Rattle.shard_core.specs.declared.pending.Pending.{Pending}
 use Rattle.shard_core.specs.declared.pending.Pending.TheVariants.{Row, Closed}
 use Rattle.shard_core.specs.Shelves.{Shelves, shelves_in_pieces}
-use Rattle.shard_core.specs.Steps.{after_all}
 use Rattle.shard_core.specs.Lagging.{IsBehind, Fits, Closes}
 
 -- ---- rows

@@ -1,9 +1,8 @@
 -- A channel's shard as contracts see it, and what its calls do and answer.
-use Rattle.std.specs.Prelude.{◌≡◌, ℕ, ◌+◌, Bool, true, List, Option, Some, None}
-use Rattle.hybrid_time.specs.declared.times.Timestamp.{Timestamp}
+use Rattle.std.specs.Prelude.{◌≡◌, ℕ, ◌+◌, Bool, true, Option, Some, None}
 use Rattle.coarse_lists.specs.declared.collections.Collection.{Collection}
 use Rattle.journal_model.specs.declared.notes.PutKind.{PutKind}
-use Rattle.journal_model.specs.declared.notes.PutKind.TheVariants.{Insert, Upsert}
+use Rattle.journal_model.specs.declared.notes.PutKind.TheVariants.{Insert}
 use Rattle.journal_model.specs.declared.notes.Note.{Note}
 use Rattle.journal_model.specs.Layouts.{Channel}
 use Rattle.journal_model.specs.Runs.{State, is_step}

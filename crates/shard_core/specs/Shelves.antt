@@ -1,5 +1,5 @@
 -- What a channel shows of its rows: the tail, and the segments with their homes, each row with its mark.
-use Rattle.std.specs.Prelude.{ℕ, nat_eq, nat_lt, Bool, not, if◌then◌else◌, List, [], ◌∷◌, ◌++◌, map, Option, Some, None}
+use Rattle.std.specs.Prelude.{ℕ, nat_eq, nat_lt, Bool, not, if◌then◌else◌, List, [], ◌∷◌, map, Option, Some, None}
 use Rattle.std.specs.List.{filter, list_any}
 use Rattle.std.specs.Option.{option_map}
 use Rattle.journal_model.specs.declared.notes.Home.{Home}
@@ -67,7 +67,8 @@ with_product node (Some product) others = with_shelf (record { number = product.
 -- what a merge that was begun gives: its number, and the rows that it keeps
 abbrev pub product_of : List Note → ℕ → Layout → List ℕ → Option ℕ → Option (ℕ × List Shown)
 product_of notes by layout sources None = None
-product_of notes by layout sources (Some number) = option_map (λ b. (b.number, map (shown notes) (merged_piece notes layout sources b))) (begun_merge layout by number)
+product_of notes by layout sources (Some number) =
+    option_map (λ b. (b.number, map (shown notes) (merged_piece notes layout sources b))) (begun_merge layout by number)
 
 abbrev pub merged_shelves : List ℕ → Option (ℕ × List Shown) → ℕ → List MarkedSegment → List MarkedSegment
 merged_shelves sources product node segments = with_product node product (shelves_but sources segments)

@@ -193,7 +193,8 @@ fn apply_some(alloc: Global, journal: &Journal, pieces: &mut Pieces, pending: &[
     requires source { IsSource journal.now pieces.old }
     requires pends { Pends journal.now.channel journal.now.state.notes pending.now (shelves_in_pieces pieces.old) }
     ensures count { result ≤ length pending.now }
-    ensures rest { after_all journal.now.state.notes (shelves_in_pieces pieces.new) (drop result pending.now) ≡ after_all journal.now.state.notes (shelves_in_pieces pieces.old) pending.now }
+    ensures rest { after_all journal.now.state.notes (shelves_in_pieces pieces.new) (drop result pending.now)
+        ≡ after_all journal.now.state.notes (shelves_in_pieces pieces.old) pending.now }
     ensures shape { IsShapedAs pieces.old pieces.new }
 {
     let mut done = 0;

@@ -38,8 +38,8 @@ pub fn catching_up()
     ensures start { (channel : Channel) → IsBehind channel [] [] [] no_shelves }
     ensures next { (channel : Channel) (notes : List Note) (p : Pending) (pending : List Pending) (deaths : List (ℕ × Timestamp)) (pieces : Shelves)
         → IsBehind channel notes (p ∷ pending) deaths pieces → IsBehind channel notes pending deaths (after_pending notes pieces p) }
-    ensures row { (channel : Channel) (s : State) (position : ℕ) (pending : List Pending) (deaths : List (ℕ × Timestamp)) (pieces : Shelves) → 0 < channel.seal_rows
-        → IsSound channel s → IsBehind channel s.notes (Row position ∷ pending) deaths pieces
+    ensures row { (channel : Channel) (s : State) (position : ℕ) (pending : List Pending) (deaths : List (ℕ × Timestamp)) (pieces : Shelves)
+        → 0 < channel.seal_rows → IsSound channel s → IsBehind channel s.notes (Row position ∷ pending) deaths pieces
         → (x : Placed) × (put_at s.notes position ≡ Some x) × Fits channel s.notes (map placed_of pieces.tail ++ x ∷ []) }
     ensures boundary { (channel : Channel) (s : State) (number : ℕ) (pending : List Pending) (deaths : List (ℕ × Timestamp)) (pieces : Shelves)
         → IsSound channel s → IsBehind channel s.notes (Closed number ∷ pending) deaths pieces → Closes channel s.notes pieces number }
@@ -66,9 +66,11 @@ pub fn moves()
         → IsBehind channel notes pending deaths pieces → is_there_with pieces.segments pending number ≡ is_there (layout_of channel notes) number }
     ensures homes { (channel : Channel) (notes : List Note) (pending : List Pending) (deaths : List (ℕ × Timestamp)) (pieces : Shelves) (number : ℕ)
         → IsBehind channel notes pending deaths pieces → homes_with pieces.segments pending number ≡ homes_in (layout_of channel notes).segments number }
-    ensures load { (channel : Channel) (notes : List Note) (note : Note) (segment node : ℕ) (pieces : Shelves) → note.kind ≡ Load segment node → IsBehind channel notes [] [] pieces
+    ensures load { (channel : Channel) (notes : List Note) (note : Note) (segment node : ℕ) (pieces : Shelves)
+        → note.kind ≡ Load segment node → IsBehind channel notes [] [] pieces
         → IsBehind channel (notes ++ note ∷ []) [] [] (record { tail = pieces.tail; segments = rehomed segment (homes_after_load node) pieces.segments }) }
-    ensures release { (channel : Channel) (notes : List Note) (note : Note) (segment node : ℕ) (pieces : Shelves) → note.kind ≡ Release segment node → IsBehind channel notes [] [] pieces
+    ensures release { (channel : Channel) (notes : List Note) (note : Note) (segment node : ℕ) (pieces : Shelves)
+        → note.kind ≡ Release segment node → IsBehind channel notes [] [] pieces
         → IsBehind channel (notes ++ note ∷ []) [] [] (record { tail = pieces.tail; segments = rehomed segment (homes_after_release node) pieces.segments }) }
     ensures merge { (channel : Channel) (notes : List Note) (note : Note) (sources : List ℕ) (segment : Option ℕ) (node : ℕ) (pieces : Shelves)
         → note.kind ≡ Merge sources segment node → IsBehind channel notes [] [] pieces

@@ -51,7 +51,8 @@ impl Model for Shard {
 
     ghost view = { λ s. record { collection = arc_value s.collection; channel = s.journal.channel; state = s.journal.state; spare = s.spare } };
 
-    ghost invariant = { λ s. HasRoom s.spare (length s.journal.state.notes) s.journal.spare s.lagging.room × KeepsShard (arc_value s.collection) s.journal s.lagging };
+    ghost invariant = { λ s. HasRoom s.spare (length s.journal.state.notes) s.journal.spare s.lagging.room
+        × KeepsShard (arc_value s.collection) s.journal s.lagging };
 }
 
 impl Shard {

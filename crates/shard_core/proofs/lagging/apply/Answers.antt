@@ -1,5 +1,4 @@
 use Rattle.std.proofs.Common.{subst}
-use Rattle.shard_core.specs.declared.pending.Pending.TheVariants.{Closed}
 use Rattle.shard_core.specs.Shelves.{shelves_in_pieces}
 use Rattle.shard_core.specs.Lagging.{Closes}
 use Rattle.shard_core.specs.Kept.{IsNext}

@@ -1,8 +1,7 @@
-use Rattle.std.proofs.Common.{◌≡◌, ◌+◌, ◌<◌, ◌∷◌, drop, List, refl, sym, ap, subst, ◌∙◌, arith, slice_index_or}
+use Rattle.std.proofs.Common.{◌≡◌, ◌+◌, ◌∷◌, drop, refl, sym, ap, subst, ◌∙◌, slice_index_or}
 use Rattle.std.proofs.lemmas.List.{drop_more}
-use Rattle.shard_core.specs.declared.pending.Pending.{Pending}
 use Rattle.shard_core.specs.declared.pending.Pending.TheVariants.{Row}
-use Rattle.shard_core.specs.Shelves.{Shelves, shelves_in_pieces}
+use Rattle.shard_core.specs.Shelves.{shelves_in_pieces}
 use Rattle.shard_core.specs.Steps.{after_all, after_pending}
 use Rattle.shard_core.specs.Lagging.{IsBehind}
 use Rattle.shard_core.specs.Kept.{Pends}

@@ -1,11 +1,11 @@
-use Rattle.std.proofs.Common.{◌≡◌, ◌++◌, ◌∷◌, [], map, Some, sym, ap, subst, ◌∙◌, take}
+use Rattle.std.proofs.Common.{◌≡◌, map, Some, sym, ap, subst, ◌∙◌, take}
 use Rattle.std.specs.List.{AllByRecursion}
 use Rattle.std.proofs.lemmas.Result.{on_ok_weaker}
 use Rattle.row_types.specs.declared.rows.Row.{Row}
 use Rattle.log_model.specs.Places.{Placed, placed, PlacedBefore}
 use Rattle.journal_model.specs.Puts.{effective}
 use Rattle.seg_sealed.specs.Segments.{IsRowOf}
-use Rattle.channel_pieces.specs.Pieces.{MarkedLayout, placed_of}
+use Rattle.channel_pieces.specs.Pieces.{placed_of}
 use Rattle.shard_core.specs.Shelves.{shelves_in_pieces}
 use Rattle.shard_core.specs.Steps.{with_shown}
 use Rattle.shard_core.specs.Kept.{IsPutOf}

@@ -1,14 +1,13 @@
-use Rattle.std.proofs.Common.{◌≡◌, List, map, sym, ap, subst, ◌∙◌}
+use Rattle.std.proofs.Common.{◌≡◌, map, sym, ap, subst, ◌∙◌}
 use Rattle.std.specs.Arc.{arc_value}
 use Rattle.std.specs.List.{AllByRecursion}
 use Rattle.coarse_lists.specs.declared.collections.Collection.{Collection}
-use Rattle.journal_model.specs.Layouts.{layout_of}
-use Rattle.journal_model.specs.Views.{IsExact, View, shown, view_of}
+use Rattle.journal_model.specs.Views.{IsExact}
 use Rattle.journal_model.proofs.RunLaws.{look_exact}
 use Rattle.seg_sealed.specs.Parts.{shown_from, shown_rows}
 use Rattle.channel_pieces.specs.Pieces.{places_of}
-use Rattle.channel_view.specs.Views.{AreRowsOf, view_in}
-use Rattle.shard_core.specs.Shelves.{Shelves, shelf_of, shelves_of, shelves_in_pieces}
+use Rattle.channel_view.specs.Views.{AreRowsOf}
+use Rattle.shard_core.specs.Shelves.{Shelves, shelves_of, shelves_in_pieces}
 use Rattle.shard_core.specs.Kept.{LaggingPieces}
 use Rattle.shard_core.specs.Shards.{IsViewOf, shard_of}
 use Rattle.shard_core.proofs.RowLaws.{tail_rows, part_rows}

@@ -1,4 +1,4 @@
-use Rattle.std.proofs.Common.{◌≡◌, ◌≤◌, ◌+◌, ◌++◌, ℕ, Option, Some, None, sym, ap, subst, refl, ◌∙◌, arith, append-nil}
+use Rattle.std.proofs.Common.{◌≡◌, ◌≤◌, ◌++◌, ℕ, Option, Some, None, sym, ap, subst, refl, ◌∙◌, arith, append-nil}
 use Rattle.std.specs.Arc.{arc_value}
 use Rattle.journal_model.specs.declared.notes.Kind.TheVariants.{Seal}
 use Rattle.journal_model.specs.Notes.{note_of}

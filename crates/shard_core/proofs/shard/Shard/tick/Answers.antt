@@ -1,4 +1,4 @@
-use Rattle.std.proofs.Common.{◌≤◌, ◌+◌, sym, subst, refl, arith}
+use Rattle.std.proofs.Common.{◌≤◌, sym, subst, refl, arith}
 use Rattle.std.specs.Arc.{arc_value}
 use Rattle.journal_model.specs.declared.notes.Kind.TheVariants.{Tick}
 use Rattle.journal_model.specs.Notes.{note_of}
