@@ -17,7 +17,6 @@ use Rattle.shard_core.specs.declared.replies.PutReply.{PutReply}
 use Rattle.shard_core.specs.declared.replies.PutReply.TheVariants.{Wrote, Exists}
 use Rattle.shard_core.specs.declared.replies.SealReply.{SealReply}
 use Rattle.shard_core.specs.declared.replies.SealReply.TheVariants.{Sealed, Empty}
-use Rattle.shard_core.specs.declared.bases.ShardBase.{ShardBase}
 
 -- the collection, the channel, its journal with the floor, and how many more notes it takes without memory
 pub record ChannelShard : Type 0 where
@@ -41,11 +40,6 @@ pub record Steps (old new : ChannelShard) (note : Note) : Type 0 where
 abbrev pub put_reply : PutKind → Bool → PutReply
 put_reply Insert true = Exists
 put_reply how was = Wrote was
-
--- whether the key was live
-abbrev pub was_live : PutReply → Bool
-was_live (Wrote was) = was
-was_live Exists = true
 
 -- the segment that a seal made, and how many rows it has
 abbrev pub segment_of : SealReply → Option ℕ
@@ -73,9 +67,3 @@ pub record IsViewOf (s : ChannelShard) (view : ChannelView) : Type 0 where
 
 abbrev pub shard_of : Collection → ChannelJournal → ℕ → ChannelShard
 shard_of collection journal spare = record { collection = collection; channel = journal.channel; state = journal.state; spare = spare }
-
--- ---- behind turns
-
--- what no turn changes
-abbrev pub base_of : ChannelShard → ShardBase
-base_of s = record { channel = s.channel.number; floor = record { 0 = s.state.floor }; collection = s.collection }

@@ -5,7 +5,6 @@
 //! each call is one step of the core, and each view that a look gives is exact.
 #![tactic(auto)]
 
-mod bases;
 mod kinds;
 mod lagging;
 mod laws;
@@ -13,7 +12,6 @@ mod pending;
 mod replies;
 mod shard;
 
-pub use crate::bases::ShardBase;
 pub use crate::laws::{catching_up, looks, moves, notes};
 pub use crate::pending::Pending;
 pub use crate::replies::{Looked, PutReply, SealReply};
