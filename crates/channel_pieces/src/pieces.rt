@@ -8,7 +8,7 @@ ghost use Rattle.log_model.specs.Places.{placed, PlacedBefore};
 ghost use Rattle.journal_model.specs.declared.notes.Home.TheVariants.{Leader, Node};
 ghost use Rattle.journal_model.specs.Layouts.{homes_after_load, homes_after_release};
 ghost use Rattle.seg_sealed.specs.Segments.{IsRowOf};
-ghost use Rattle.seg_sealed.specs.Parts.{shown_from, shown_rows};
+ghost use Rattle.seg_sealed.specs.Parts.{AreDeathsOf, shown_from, shown_rows};
 ghost use Rattle.place_table.specs.Tables.{IsChosen};
 ghost use Rattle.channel_pieces.specs.Pieces.{no_pieces, placed_of, with_row, after_close, AreOnce, after_deaths, segment_in, with_homes, is_at, is_elsewhere, numbers_at, table_of, places_of, HasShape};
 
@@ -126,6 +126,7 @@ impl Pieces {
     pub fn tail(&mut self, alloc: Global) -> Result<(SharedTail, Marks), Memory>
         ensures rows { IfOk result (λ shared. shown_from shared.1.deaths 0 shared.0.rows ≡ self.old.tail) }
         ensures dim { IfOk result (λ shared. shared.0.dim ≡ self.old.dim) }
+        ensures marks { IfOk result (λ shared. AreDeathsOf (length shared.0.rows) shared.1.deaths) }
         ensures same { self.new ≡ self.old }
     {
         self.tail.share(alloc)

@@ -93,6 +93,7 @@ impl Tail {
     pub(crate) fn share(&mut self, alloc: Global) -> Result<(SharedTail, Marks), Memory>
         ensures rows { IfOk result (λ shared. shown_from shared.1.deaths 0 shared.0.rows ≡ self.old.rows) }
         ensures dim { IfOk result (λ shared. shared.0.dim ≡ self.old.dim) }
+        ensures marks { IfOk result (λ shared. AreDeathsOf (length shared.0.rows) shared.1.deaths) }
         ensures same { self.new ≡ self.old }
     {
         let marks = self.marks.share(alloc)?;

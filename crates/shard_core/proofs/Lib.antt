@@ -1,0 +1,9 @@
+pub mod MarkLaws
+pub mod ShelfLaws
+pub mod StepLaws
+pub mod FrontLaws
+pub mod MoveLaws
+pub mod SourceLaws
+pub mod KeepLaws
+pub mod RowLaws
+pub mod ViewLaws

@@ -1,0 +1,6 @@
+pub mod Shelves
+pub mod Steps
+pub mod Lagging
+pub mod Told
+pub mod Kept
+pub mod Shards

@@ -1,0 +1,18 @@
+//! The shard of a channel: its journal, and the pieces that a look shows.
+//!
+//! A write touches the journal alone; what it changes of rows and boundaries is pending, and the rows
+//! that it ends are open deaths, until a look brings the pieces up. The layer above relies on this:
+//! each call is one step of the core, and each view that a look gives is exact.
+#![tactic(auto)]
+
+mod kinds;
+mod lagging;
+mod laws;
+mod pending;
+mod replies;
+mod shard;
+
+pub use crate::laws::{catching_up, looks, moves, notes};
+pub use crate::pending::Pending;
+pub use crate::replies::{Looked, PutReply, SealReply};
+pub use crate::shard::Shard;
