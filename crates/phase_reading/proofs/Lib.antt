@@ -1,0 +1,9 @@
+pub mod Pieces
+pub mod Splits
+pub mod Steps
+pub mod Asking
+pub mod Cutting
+pub mod Closing
+pub mod Taking
+pub mod Ending
+pub mod Passing
