@@ -73,13 +73,13 @@ push_chains slots marks before last mark kept =
       width = length-set last slot (length marks + 1) ∙ width;
       many = let a = length-append before (get_or last slot 0 ∷ []) in omega arith;
       ends = λ s lt. ⊎_elim
-      (λ (same : s ≡ slot). moved slots slot s (marks ++ mark ∷ []) (length (marks ++ mark ∷ [])) (length marks + 1) (get_or (set last slot (length marks + 1)) s 0) (sym same) (sym (ap (λ k. get_or (set last slot (length marks + 1)) k 0) same ∙ get_or-set_same last slot (length marks + 1) 0 (omega arith))) (new_last slots marks mark (length (marks ++ mark ∷ [])) more))
-      (λ (apart : s ≢ slot). moved slots s s (marks ++ mark ∷ []) (length (marks ++ mark ∷ [])) (get_or last s 0) (get_or (set last slot (length marks + 1)) s 0) refl (sym (get_or-set_other last slot s (length marks + 1) 0 apart)) (other_last slots s marks mark (length (marks ++ mark ∷ [])) (get_or last s 0) more (λ e. apart (sym e)) (kept.ends s lt)))
-      (cases_eq s slot);
+          (λ (same : s ≡ slot). moved slots slot s (marks ++ mark ∷ []) (length (marks ++ mark ∷ [])) (length marks + 1) (get_or (set last slot (length marks + 1)) s 0) (sym same) (sym (ap (λ k. get_or (set last slot (length marks + 1)) k 0) same ∙ get_or-set_same last slot (length marks + 1) 0 (omega arith))) (new_last slots marks mark (length (marks ++ mark ∷ [])) more))
+          (λ (apart : s ≢ slot). moved slots s s (marks ++ mark ∷ []) (length (marks ++ mark ∷ [])) (get_or last s 0) (get_or (set last slot (length marks + 1)) s 0) refl (sym (get_or-set_other last slot s (length marks + 1) 0 apart)) (other_last slots s marks mark (length (marks ++ mark ∷ [])) (get_or last s 0) more (λ e. apart (sym e)) (kept.ends s lt)))
+          (cases_eq s slot);
       links = λ i lt. ⊎_elim
-      (λ (same : i ≡ length marks). subst (λ k. IsLast slots (slot_of slots (row_at (marks ++ mark ∷ []) k)) (marks ++ mark ∷ []) k (get_or (before ++ get_or last slot 0 ∷ []) k 0)) (sym same) (moved slots slot (slot_of slots (row_at (marks ++ mark ∷ []) (length marks))) (marks ++ mark ∷ []) (length marks) (get_or last slot 0) (get_or (before ++ get_or last slot 0 ∷ []) (length marks) 0) (sym (ap (slot_of slots) (row_pushed marks mark (length marks) refl))) (sym (get_or_push before (get_or last slot 0) 0 (length marks) many)) (last_kept slots slot marks mark (length marks) (get_or last slot 0) (omega arith) (kept.ends slot here))))
-      (λ (apart : i ≢ length marks). let fewer : i < length marks = omega arith in moved slots (slot_of slots (row_at marks i)) (slot_of slots (row_at (marks ++ mark ∷ []) i)) (marks ++ mark ∷ []) i (get_or before i 0) (get_or (before ++ get_or last slot 0 ∷ []) i 0) (sym (ap (slot_of slots) (row_kept marks mark i fewer))) (sym (get_or-append before (get_or last slot 0 ∷ []) 0 i (omega arith))) (last_kept slots (slot_of slots (row_at marks i)) marks mark i (get_or before i 0) (omega arith) (kept.links i fewer)))
-      (cases_eq i (length marks));
+          (λ (same : i ≡ length marks). subst (λ k. IsLast slots (slot_of slots (row_at (marks ++ mark ∷ []) k)) (marks ++ mark ∷ []) k (get_or (before ++ get_or last slot 0 ∷ []) k 0)) (sym same) (moved slots slot (slot_of slots (row_at (marks ++ mark ∷ []) (length marks))) (marks ++ mark ∷ []) (length marks) (get_or last slot 0) (get_or (before ++ get_or last slot 0 ∷ []) (length marks) 0) (sym (ap (slot_of slots) (row_pushed marks mark (length marks) refl))) (sym (get_or_push before (get_or last slot 0) 0 (length marks) many)) (last_kept slots slot marks mark (length marks) (get_or last slot 0) (omega arith) (kept.ends slot here))))
+          (λ (apart : i ≢ length marks). let fewer : i < length marks = omega arith in moved slots (slot_of slots (row_at marks i)) (slot_of slots (row_at (marks ++ mark ∷ []) i)) (marks ++ mark ∷ []) i (get_or before i 0) (get_or (before ++ get_or last slot 0 ∷ []) i 0) (sym (ap (slot_of slots) (row_kept marks mark i fewer))) (sym (get_or-append before (get_or last slot 0 ∷ []) 0 i (omega arith))) (last_kept slots (slot_of slots (row_at marks i)) marks mark i (get_or before i 0) (omega arith) (kept.links i fewer)))
+          (cases_eq i (length marks));
     }
 
 pub push_latest : (marks : List Mark) (before last : List ℕ) (mark : Mark) (slots at number : ℕ) (pushed : List Mark) (linked : List ℕ) → KeepsChains (length last) marks before last → slots ≡ length last → at ≡ get_or last (slot_of slots mark.0) 0 → number ≡ length marks + 1 → pushed ≡ marks ++ mark ∷ [] → linked ≡ before ++ at ∷ [] → KeepsChains (length (set last (slot_of slots mark.0) number)) pushed linked (set last (slot_of slots mark.0) number)
@@ -112,12 +112,12 @@ walk_goes slots row marks before last at kept walk some ne =
     record {
       bound = let a = l.bound in omega arith;
       missing = λ i le lt e. ⊎_elim
-      (λ (fewer : i < at - 1). l.later i le fewer (ap (slot_of slots) e ∙ sym same))
-      (λ (more : at - 1 ≤ i). ⊎_elim
-      (λ (there : i ≡ at - 1). ne (ap (row_at marks) (sym there) ∙ e))
-      (λ (apart : i ≢ at - 1). walk.missing i (omega arith) lt e)
-      (cases_eq i (at - 1)))
-      (cases_lt i (at - 1));
+          (λ (fewer : i < at - 1). l.later i le fewer (ap (slot_of slots) e ∙ sym same))
+          (λ (more : at - 1 ≤ i). ⊎_elim
+          (λ (there : i ≡ at - 1). ne (ap (row_at marks) (sym there) ∙ e))
+          (λ (apart : i ≢ at - 1). walk.missing i (omega arith) lt e)
+          (cases_eq i (at - 1)))
+          (cases_lt i (at - 1));
       here = λ lt. l.here lt ∙ same;
     }
 

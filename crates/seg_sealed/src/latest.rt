@@ -10,14 +10,17 @@ use row_types::Memory;
 use std::alloc::Global;
 use std::marker::Model;
 
-/// The least number of slots.
-const LEAST_SLOTS: usize = 64;
+/// How many slots there are for as many marks or fewer.
+const FEW_SLOTS: usize = 64;
+
+/// The least number of slots for more marks.
+const MANY_SLOTS: usize = 1024;
 
 /// Marks in the order in which they were made, and how many more are taken without memory.
 ///
 /// A row's slot is its number's lower bits. The marks of one slot form a chain from the last to the
-/// first, and there are as many slots as there is room for marks, so a chain is short in a segment
-/// of up to 65,536 rows, whatever rows die.
+/// first. There are slots for all marks that there is room for, and for more than 64 marks at least
+/// 1,024, so a chain has at most 64 marks in a segment of up to 65,536 rows, whatever rows die.
 #[derive(Debug, Drop)]
 pub(crate) struct Latest {
     marks: Vec<(u32, Timestamp)>,
@@ -126,7 +129,7 @@ impl Latest {
         self.last.fill(0);
     }
 
-    /// When a row died, of marks of different rows.
+    /// When a row died.
     pub(crate) fn find(&self, row: u32) -> Option<Timestamp>
         requires { AreApart self.now.marks }
         ensures { option_map (λ ts. ts.0) result ≡ death_at row (map death_of self.now.marks) }
@@ -139,9 +142,12 @@ impl Latest {
 fn slots_for(room: usize) -> usize
     ensures { 1 ≤ result }
 {
+    if room <= FEW_SLOTS {
+        return FEW_SLOTS;
+    }
     match room.checked_next_power_of_two() {
-        Some(slots) => slots.max(LEAST_SLOTS),
-        None => LEAST_SLOTS,
+        Some(slots) => slots.max(MANY_SLOTS),
+        None => MANY_SLOTS,
     }
 }
 

@@ -7,4 +7,3 @@ returns-then-mark-row c = sym (walk_finds _ c.args.row c.args.marks.now c.chain.
 
 pub returns : goal.returns
 returns c = sym (walk_ends _ c.args.row c.args.marks.now c.chain.at c.chain.invariant c.chain-test.false)
-
