@@ -64,6 +64,9 @@ other_last slots slot marks mark n at many ne l =
 pub push_chains : (slots : ℕ) (marks : List Mark) (before last : List ℕ) (mark : Mark) → KeepsChains slots marks before last → KeepsChains slots (marks ++ mark ∷ []) (before ++ get_or last (slot_of slots mark.0) 0 ∷ []) (set last (slot_of slots mark.0) (length marks + 1))
 push_chains slots marks before last mark kept =
     let slot : ℕ = slot_of slots mark.0 in
+    let pushed : List Mark = marks ++ mark ∷ [] in
+    let linked : List ℕ = before ++ get_or last slot 0 ∷ [] in
+    let ended : List ℕ = set last slot (length marks + 1) in
     let here : slot < slots = slot_below slots mark.0 kept.some in
     let more : length (marks ++ mark ∷ []) ≡ length marks + 1 = length-append marks (mark ∷ []) in
     let width : length last ≡ slots = kept.width in
@@ -73,12 +76,24 @@ push_chains slots marks before last mark kept =
       width = length-set last slot (length marks + 1) ∙ width;
       many = let a = length-append before (get_or last slot 0 ∷ []) in omega arith;
       ends = λ s lt. ⊎_elim
-          (λ (same : s ≡ slot). moved slots slot s (marks ++ mark ∷ []) (length (marks ++ mark ∷ [])) (length marks + 1) (get_or (set last slot (length marks + 1)) s 0) (sym same) (sym (ap (λ k. get_or (set last slot (length marks + 1)) k 0) same ∙ get_or-set_same last slot (length marks + 1) 0 (omega arith))) (new_last slots marks mark (length (marks ++ mark ∷ [])) more))
-          (λ (apart : s ≢ slot). moved slots s s (marks ++ mark ∷ []) (length (marks ++ mark ∷ [])) (get_or last s 0) (get_or (set last slot (length marks + 1)) s 0) refl (sym (get_or-set_other last slot s (length marks + 1) 0 apart)) (other_last slots s marks mark (length (marks ++ mark ∷ [])) (get_or last s 0) more (λ e. apart (sym e)) (kept.ends s lt)))
+          (λ (same : s ≡ slot). moved slots slot s pushed (length pushed) (length marks + 1) (get_or ended s 0) (sym same)
+          (sym (ap (λ k. get_or ended k 0) same ∙ get_or-set_same last slot (length marks + 1) 0 (omega arith)))
+          (new_last slots marks mark (length pushed) more))
+          (λ (apart : s ≢ slot). moved slots s s pushed (length pushed) (get_or last s 0) (get_or ended s 0) refl
+          (sym (get_or-set_other last slot s (length marks + 1) 0 apart))
+          (other_last slots s marks mark (length pushed) (get_or last s 0) more (λ e. apart (sym e)) (kept.ends s lt)))
           (cases_eq s slot);
       links = λ i lt. ⊎_elim
-          (λ (same : i ≡ length marks). subst (λ k. IsLast slots (slot_of slots (row_at (marks ++ mark ∷ []) k)) (marks ++ mark ∷ []) k (get_or (before ++ get_or last slot 0 ∷ []) k 0)) (sym same) (moved slots slot (slot_of slots (row_at (marks ++ mark ∷ []) (length marks))) (marks ++ mark ∷ []) (length marks) (get_or last slot 0) (get_or (before ++ get_or last slot 0 ∷ []) (length marks) 0) (sym (ap (slot_of slots) (row_pushed marks mark (length marks) refl))) (sym (get_or_push before (get_or last slot 0) 0 (length marks) many)) (last_kept slots slot marks mark (length marks) (get_or last slot 0) (omega arith) (kept.ends slot here))))
-          (λ (apart : i ≢ length marks). let fewer : i < length marks = omega arith in moved slots (slot_of slots (row_at marks i)) (slot_of slots (row_at (marks ++ mark ∷ []) i)) (marks ++ mark ∷ []) i (get_or before i 0) (get_or (before ++ get_or last slot 0 ∷ []) i 0) (sym (ap (slot_of slots) (row_kept marks mark i fewer))) (sym (get_or-append before (get_or last slot 0 ∷ []) 0 i (omega arith))) (last_kept slots (slot_of slots (row_at marks i)) marks mark i (get_or before i 0) (omega arith) (kept.links i fewer)))
+          (λ (same : i ≡ length marks). subst (λ k. IsLast slots (slot_of slots (row_at pushed k)) pushed k (get_or linked k 0)) (sym same)
+          (moved slots slot (slot_of slots (row_at pushed (length marks))) pushed (length marks) (get_or last slot 0) (get_or linked (length marks) 0)
+          (sym (ap (slot_of slots) (row_pushed marks mark (length marks) refl)))
+          (sym (get_or_push before (get_or last slot 0) 0 (length marks) many))
+          (last_kept slots slot marks mark (length marks) (get_or last slot 0) (omega arith) (kept.ends slot here))))
+          (λ (apart : i ≢ length marks). let fewer : i < length marks = omega arith in
+          moved slots (slot_of slots (row_at marks i)) (slot_of slots (row_at pushed i)) pushed i (get_or before i 0) (get_or linked i 0)
+          (sym (ap (slot_of slots) (row_kept marks mark i fewer)))
+          (sym (get_or-append before (get_or last slot 0 ∷ []) 0 i (omega arith)))
+          (last_kept slots (slot_of slots (row_at marks i)) marks mark i (get_or before i 0) (omega arith) (kept.links i fewer)))
           (cases_eq i (length marks));
     }
 
