@@ -163,12 +163,13 @@ fn a_segment_is_read_back_from_its_log(rt: HostRuntime) -> Result<(), Fail> {
     Ok(())
 }
 
-/// Marks every third row below 300 with its number as the timestamp, the greatest first.
+/// Marks every third row below 300 with its number as the timestamp, the greatest first, in room that
+/// was made at once.
 fn marked(alloc: Global) -> Result<Marks, Memory> {
     let mut marks = Marks::new(alloc, 5)?;
+    marks.reserve(alloc, 100)?;
     for i in 0..100 {
         let row = 297 - 3 * i;
-        marks.reserve(alloc, 1)?;
         if marks.dead_at(row).is_none() {
             marks.mark(row, Timestamp(u64::from(row)));
         }
@@ -186,11 +187,11 @@ fn check_marks(rt: &impl Abort, marks: &Marks) {
         };
         assert_eq!(rt; marks.dead_at(row), want);
     }
+    assert_eq!(rt; marks.len(), 100);
     let deaths = marks.deaths();
     let count = deaths.sorted.len().checked_add(deaths.latest.len());
     assert_eq!(rt; count, Some(100));
     assert!(rt; deaths.sorted.iter().is_sorted());
-    assert!(rt; deaths.latest.len() <= 64);
 }
 
 #[test]
@@ -207,6 +208,7 @@ fn marks_are_what_was_marked(rt: HostRuntime) -> Result<(), Memory> {
     assert_eq!(&rt; marks.dead_at(1), Some(Timestamp(400)));
     assert_eq!(&rt; marks.applied(), 6);
     check_marks(&rt, &shared);
+    assert!(&rt; shared.deaths().latest.len() <= 64);
     Ok(())
 }
 
