@@ -23,7 +23,8 @@ use Rattle.channel_pieces.specs.Pieces.{MarkedLayout, places_of}
 use Rattle.channel_view.specs.Views.{ChannelView}
 use Rattle.shard_core.specs.Shelves.{shelves_of, shelves_in_pieces, seen_in}
 use Rattle.shard_core.specs.Lagging.{IsBehind}
-use Rattle.shard_core.specs.Kept.{kinds_in, IsPutOf, IsPutIn, LaggingPieces, IsSource, HasRoom, KeepsShard}
+use Rattle.shard_core.specs.Keys.{IsPutIn}
+use Rattle.shard_core.specs.Kept.{kinds_in, IsPutOf, LaggingPieces, IsSource, HasRoom, KeepsShard}
 use Rattle.shard_core.specs.Shards.{ChannelShard, IsViewOf}
 use Rattle.shard_core.proofs.ShelfLaws.{view_seen}
 use Rattle.shard_core.proofs.MoveLaws.{shows_all}

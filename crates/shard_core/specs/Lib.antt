@@ -1,3 +1,4 @@
+pub mod Keys
 pub mod Shelves
 pub mod Steps
 pub mod Lagging
