@@ -1,5 +1,5 @@
 -- Marks: looking a row up, one mark more, and marks in another order.
-use Rattle.std.proofs.Common.{◌≡◌, ◌≢◌, ℕ, zero, suc, ◌+◌, ◌<◌, ◌≤◌, nat_eq, Bool, true, false, ◌&&◌, cond, List, [], ◌∷◌, ◌++◌, length, length-drop, drop-cons, map, take, drop, get_or, append_assoc, ◌==◌, ◌-◌, Option, Some, None, refl, sym, ap, subst, ◌∙◌, ⊎_elim, zero-add, arith}
+use Rattle.std.proofs.Common.{◌≡◌, ◌≢◌, ℕ, zero, suc, ◌+◌, ◌<◌, ◌≤◌, nat_eq, Bool, true, false, ◌&&◌, cond, List, [], ◌∷◌, ◌++◌, length, length-drop, drop-cons, map, take, drop, get_or, append_assoc, ◌==◌, ◌-◌, Option, Some, None, is_some, refl, sym, ap, subst, ◌∙◌, ⊎_elim, zero-add, arith}
 use Rattle.std.specs.List.{AllByRecursion, count_by, sum_by}
 use Rattle.std.specs.List.Sorted.{IsPermutation, IsNonDecreasingBy}
 use Rattle.std.specs.Option.{option_or}
@@ -349,3 +349,53 @@ found_frozen frozen latest row ts is = death_in row (frozen ++ latest) ∙ found
 
 pub found_latest : (frozen latest : List Mark) (row : ℕ) → death_at row (map death_of frozen) ≡ None → death_at row (deaths_in (frozen ++ latest)) ≡ death_at row (map death_of latest)
 found_latest frozen latest row none = death_in row (frozen ++ latest) ∙ found_either row frozen latest ∙ ap (λ o. option_or o (death_at row (map death_of latest))) none
+
+-- ---- how many rows are marked
+
+none_of : (row : ℕ) (marks : List Mark) → counted row marks ≡ 0 → death_at row (map death_of marks) ≡ None
+unfolding told
+none_of row marks none = told_same (death_at row (map death_of marks)) None (sym (worth_is row marks (omega arith)) ∙ no_worth row marks none)
+
+-- marks of different rows are as many deaths
+pub deaths_count : (marks : List Mark) → AreApart marks → length (deaths_in marks) ≡ length marks
+deaths_count marks apart = go marks (few_of marks apart)
+  where
+    go : (marks : List Mark) → ((row : ℕ) → counted row marks ≤ 1) → length (deaths_in marks) ≡ length marks
+    go [] few = sym (fin.len-entries fin.empty) ∙ fin.len-empty nat_cmp ℕ
+    go (mark ∷ marks) few =
+        let none : counted mark.0 marks ≡ 0 = let a = counted-hit mark.0 mark marks refl in let b = few mark.0 in omega arith in
+        let held : fin.get (fin.from_entries {R = nat_cmp} (map death_of marks)) mark.0 ≡ None = fin.get-from_entries nat_cmp_total (map death_of marks) mark.0 ∙ none_of mark.0 marks none in
+        let more : fin.len (fin.insert (fin.from_entries {R = nat_cmp} (map death_of marks)) mark.0 mark.1.0) ≡ fin.len (fin.from_entries {R = nat_cmp} (map death_of marks)) + 1 =
+        fin.len-insert nat_cmp_total (fin.from_entries (map death_of marks)) mark.0 mark.1.0 ∙ ap (λ o. cond (is_some o) (fin.len (fin.from_entries {R = nat_cmp} (map death_of marks))) (fin.len (fin.from_entries {R = nat_cmp} (map death_of marks)) + 1)) held in
+        let rest : length (deaths_in marks) ≡ length marks = go marks (λ row. let a = tail_counted row mark marks in let b = few row in omega arith) in
+        let below : fin.len (fin.from_entries {R = nat_cmp} (map death_of marks)) ≡ length (deaths_in marks) = fin.len-entries (fin.from_entries (map death_of marks)) in
+        sym (fin.len-entries (fin.insert (fin.from_entries {R = nat_cmp} (map death_of marks)) mark.0 mark.1.0)) ∙ more ∙ (omega arith)
+
+-- ---- marks by their places
+
+apart_back_sum : (row : ℕ) (xs ys : List Mark) → counted row (xs ++ ys) ≤ 1 → counted row ys ≤ 1
+apart_back_sum row xs ys few = let a = counted-append row xs ys in omega arith
+
+pub apart_back : (xs ys : List Mark) → AreApart (xs ++ ys) → AreApart ys
+apart_back xs ys apart = apart_of ys (λ row. apart_back_sum row xs ys (few_of (xs ++ ys) apart row))
+
+counted_at : (marks : List Mark) (i row : ℕ) (d : Mark) → i < length marks → (get_or marks i d).0 ≡ row → 1 ≤ counted row marks
+counted_at [] i row d lt e = absurd (omega arith)
+counted_at (mark ∷ marks) zero row d lt e = let a = counted-hit row mark marks e in omega arith
+counted_at (mark ∷ marks) (suc i) row d lt e = let a = counted_at marks i row d (omega arith) e in let b = tail_counted row mark marks in omega arith
+
+-- a mark is found by its row where the rows are different
+pub found_at : (marks : List Mark) (i row : ℕ) (d : Mark) → AreApart marks → i < length marks → (get_or marks i d).0 ≡ row → death_at row (map death_of marks) ≡ Some (get_or marks i d).1.0
+found_at marks i row d apart lt e = go marks i (few_of marks apart row) lt e
+  where
+    go : (marks : List Mark) (i : ℕ) → counted row marks ≤ 1 → i < length marks → (get_or marks i d).0 ≡ row → death_at row (map death_of marks) ≡ Some (get_or marks i d).1.0
+    go [] i few lt e = absurd (omega arith)
+    go (mark ∷ marks) zero few lt e = found_first row mark marks e
+    go (mark ∷ marks) (suc i) few lt e =
+        let one : 1 ≤ counted row marks = counted_at marks i row d (omega arith) e in
+        let ne : mark.0 ≢ row = λ f. let a = counted-hit row mark marks f in absurd (omega arith) in
+        passed_first row mark marks ne ∙ go marks i (let a = tail_counted row mark marks in omega arith) (omega arith) e
+
+pub none_at : (row : ℕ) (marks : List Mark) (d : Mark) → ((i : ℕ) → i < length marks → (get_or marks i d).0 ≢ row) → death_at row (map death_of marks) ≡ None
+none_at row [] d none = refl
+none_at row (mark ∷ marks) d none = passed_first row mark marks (none 0 (omega arith)) ∙ none_at row marks d (λ i lt. none (suc i) (omega arith))

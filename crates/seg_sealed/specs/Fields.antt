@@ -1,5 +1,6 @@
 -- How the fields of the types are seen, and what they keep; only proofs need it.
-use Rattle.std.specs.Prelude.{◌≡◌, ◌≤◌, nat_eq, ℕ, zero, suc, ℤ, pos, slice_index_or, Bool, false, List, [], ◌∷◌, ◌++◌, length, map, take, drop, Option, None, refl}
+use Rattle.std.specs.Prelude.{◌≡◌, ◌≢◌, ◌<◌, ◌≤◌, ◌-◌, nat_eq, ℕ, zero, suc, ℤ, pos, slice_index_or, Bool, false, List, [], ◌∷◌, ◌++◌, length, map, take, drop, Option, None, refl}
+use Rattle.std.specs.Int.Bits.{bit_and}
 use Rattle.std.specs.List.{count_by}
 use Rattle.hybrid_time.specs.declared.times.Timestamp.{Timestamp}
 use Rattle.row_types.specs.declared.rows.Key.{Key}
@@ -84,3 +85,35 @@ AreApart marks = (row : ℕ) → count_by (λ mark. nat_eq mark.0 row) marks ≤
 pub record KeepsMarks (frozen latest : List (ℕ × Timestamp)) : Type 0 where
   pub rise : RowsRise frozen
   pub apart : AreApart (frozen ++ latest)
+
+-- ---- the latest marks
+
+-- the latest marks in the order in which they were made, and how many more are taken without memory
+pub record LatestMarks : Type 0 where
+  pub marks : List (ℕ × Timestamp)
+  pub spare : ℕ
+
+-- the slot of a row, of so many
+abbrev pub slot_of : ℕ → ℕ → ℕ
+slot_of slots row = bit_and row (slots - 1)
+
+abbrev pub row_at : List (ℕ × Timestamp) → ℕ → ℕ
+row_at marks i = (slice_index_or marks i (0, record { 0 = 0 })).0
+
+-- the last of the first n marks whose row has this slot: its number plus 1, and 0 where there is none
+pub record IsLast (slots slot : ℕ) (marks : List (ℕ × Timestamp)) (n at : ℕ) : Type 0 where
+  pub bound : at ≤ n
+  pub later : (i : ℕ) → at ≤ i → i < n → slot_of slots (row_at marks i) ≢ slot
+  pub here : 0 < at → slot_of slots (row_at marks (at - 1)) ≡ slot
+
+-- the marks of each slot form a chain from the last to the first
+pub record KeepsChains (slots : ℕ) (marks : List (ℕ × Timestamp)) (before last : List ℕ) : Type 0 where
+  pub some : 0 < slots
+  pub width : length last ≡ slots
+  pub many : length before ≡ length marks
+  pub ends : (slot : ℕ) → slot < slots → IsLast slots slot marks (length marks) (slice_index_or last slot 0)
+  pub links : (i : ℕ) → i < length marks → IsLast slots (slot_of slots (row_at marks i)) marks i (slice_index_or before i 0)
+
+pub record KeepsLatest (spare room : ℕ) (marks : List (ℕ × Timestamp)) (before last : List ℕ) : Type 0 where
+  pub enough : spare ≤ room
+  pub chains : KeepsChains (length last) marks before last

@@ -1,6 +1,6 @@
 //! Marks that no call changes any more, sorted by their rows.
 
-ghost use Rattle.std.specs.Prelude.{◌≡◌, ◌++◌, map, IfOk};
+ghost use Rattle.std.specs.Prelude.{◌≡◌, ◌<◌, ◌^◌, ◌++◌, length, map, IfOk};
 ghost use Rattle.std.specs.Option.{option_map};
 ghost use Rattle.seg_sealed.specs.Marks.{RowsRise, death_of, death_at, deaths_in};
 ghost use Rattle.seg_sealed.specs.Fields.{AreApart};
@@ -41,6 +41,13 @@ impl Frozen {
         self.marks.as_slice()
     }
 
+    pub(crate) fn len(&self) -> usize
+        ensures len { result ≡ length self.now }
+        ensures few { result < 2 ^ 63 }
+    {
+        self.marks.len()
+    }
+
     /// One more owner.
     pub(crate) fn share(&self) -> Result<Frozen, Memory>
         ensures { IfOk result (λ f. f ≡ self.now) }
@@ -70,7 +77,9 @@ impl Frozen {
         let mut marks = Vec::with_capacity(alloc, self.marks.len() + others.len())?;
         marks.extend_from_slice(self.marks.as_slice())?;
         marks.extend_from_slice(others)?;
-        marks.sort_unstable_by_key(|mark| mark.0);
+        // The stable sort keeps the run of these marks, sorts the others alone, and merges the two in one
+        // pass.
+        marks.sort_by_key(|mark| mark.0)?;
         Ok(marks)
     }
 }

@@ -9,6 +9,7 @@
 mod columns;
 mod copies;
 mod frozen;
+mod latest;
 mod marks;
 mod parts;
 mod rows;

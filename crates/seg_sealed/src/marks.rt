@@ -1,11 +1,12 @@
 //! Which rows of a segment died, and when.
 
-ghost use Rattle.std.specs.Prelude.{◌≡◌, ◌+◌, ◌≤◌, ◌++◌, [], map, None, IfOk, OnOk, OnErr};
+ghost use Rattle.std.specs.Prelude.{◌≡◌, ◌+◌, ◌≤◌, ◌++◌, [], length, map, None, IfOk, OnOk, OnErr};
 ghost use Rattle.std.specs.Option.{option_map};
 ghost use Rattle.binlog_format.specs.Deletes.{IsDeleteLog};
 ghost use Rattle.seg_sealed.specs.Marks.{RowsRise, death_of, death_at, with_death, deaths_in, delete_log_of};
 
 use crate::frozen::Frozen;
+use crate::latest::Latest;
 use binlog_format::DeleteLog;
 use hybrid_time::Timestamp;
 use row_types::{List, Memory};
@@ -15,6 +16,10 @@ use std::marker::Model;
 /// How many marks may stand apart from the sorted ones when marks are shared.
 const LATEST_MARKS: usize = 64;
 
+/// Room is made with the latest marks apart from the sorted ones up to this part of those, so that the
+/// sorted ones are copied once for many deaths.
+const SORTED_TO_LATEST: usize = 4;
+
 /// Which rows of a segment died, each with the timestamp of its death, up to a position of the
 /// journal. Contracts see the deaths by rising row numbers, the position, and how many
 /// more marks are taken without memory.
@@ -22,19 +27,19 @@ const LATEST_MARKS: usize = 64;
 pub struct Marks {
     applied: u64,
     frozen: Frozen,
-    latest: Vec<(u32, Timestamp)>,
+    latest: Latest,
 }
 
 impl Model for Marks {
-    ghost use Rattle.std.specs.Prelude.{◌++◌, ◌-◌, vec_len, vec_capacity};
+    ghost use Rattle.std.specs.Prelude.{◌++◌};
     ghost use Rattle.seg_sealed.specs.Marks.{Marked, deaths_in};
     ghost use Rattle.seg_sealed.specs.Fields.{KeepsMarks};
 
     ghost Value = { Marked };
 
-    ghost view = { λ m. record { deaths = deaths_in (m.frozen ++ m.latest.items); applied = m.applied; spare = vec_capacity m.latest - vec_len m.latest } };
+    ghost view = { λ m. record { deaths = deaths_in (m.frozen ++ m.latest.marks); applied = m.applied; spare = m.latest.spare } };
 
-    ghost invariant = { λ m. KeepsMarks m.frozen m.latest.items };
+    ghost invariant = { λ m. KeepsMarks m.frozen m.latest.marks };
 }
 
 /// The marks of a segment: those that stand sorted by their rows, and those that were made since.
@@ -51,10 +56,11 @@ impl Marks {
         ensures applied { IfOk result (λ m. m.applied ≡ applied) }
     {
         let frozen = Frozen::of(alloc, Vec::new(alloc))?;
+        let latest = Latest::new(alloc, 0)?;
         Ok(Marks {
             applied,
             frozen,
-            latest: Vec::new(alloc),
+            latest,
         })
     }
 
@@ -65,10 +71,11 @@ impl Marks {
         ensures applied { IfOk result (λ m. m.applied ≡ log.applied) }
     {
         let frozen = Frozen::of(alloc, log.marks.into_vec())?;
+        let latest = Latest::new(alloc, 0)?;
         Ok(Marks {
             applied: log.applied,
             frozen,
-            latest: Vec::new(alloc),
+            latest,
         })
     }
 
@@ -92,9 +99,9 @@ impl Marks {
         ensures applied { self.new.applied ≡ self.old.applied }
         ensures spare { self.old.spare ≤ self.new.spare }
     {
-        self.freeze(alloc)?;
-        self.latest.reserve(n as usize)?;
-        Ok(())
+        let most = LATEST_MARKS.max(self.frozen.len() / SORTED_TO_LATEST);
+        self.freeze(alloc, most)?;
+        self.latest.reserve(alloc, n)
     }
 
     /// Marks a row as dead from a timestamp on; takes no memory.
@@ -105,7 +112,7 @@ impl Marks {
         ensures applied { self.new.applied ≡ self.old.applied }
         ensures spare { self.old.spare ≡ self.new.spare + 1 }
     {
-        self.latest.push_reserved((row, ts));
+        self.latest.push(row, ts);
     }
 
     /// Says that deaths are marked up to a position.
@@ -124,14 +131,21 @@ impl Marks {
         self.applied
     }
 
-    /// When a row died; `None` exactly where it has no mark. Looks the row up among the sorted marks,
-    /// and then among those that were made since the last call of `reserve` or `share`.
+    /// How many rows are marked; takes no walk.
+    pub fn len(&self) -> u64
+        ensures { result ≡ length self.now.deaths }
+    {
+        (self.frozen.len() + self.latest.len()) as u64
+    }
+
+    /// When a row died; `None` exactly where it has no mark. Looks the row up among the sorted marks by
+    /// halves, and then among the latest in a few steps.
     pub fn dead_at(&self, row: u32) -> Option<Timestamp>
         ensures { option_map (λ ts. ts.0) result ≡ death_at row self.now.deaths }
     {
         match self.frozen.find(row) {
             Some(ts) => Some(ts),
-            None => find_latest(self.latest.as_slice(), row),
+            None => self.latest.find(row),
         }
     }
 
@@ -155,8 +169,8 @@ impl Marks {
         ensures same_applied { self.new.applied ≡ self.old.applied }
         ensures spare { self.old.spare ≤ self.new.spare }
     {
-        self.freeze(alloc)?;
-        let latest = Vec::from_slice(alloc, self.latest.as_slice())?;
+        self.freeze(alloc, LATEST_MARKS)?;
+        let latest = Latest::of(alloc, self.latest.as_slice(), 0)?;
         let frozen = self.frozen.share()?;
         Ok(Marks {
             applied: self.applied,
@@ -165,28 +179,17 @@ impl Marks {
         })
     }
 
-    // Sorts the latest marks in among the others, where there are many.
-    fn freeze(&mut self, alloc: Global) -> Result<(), Memory>
+    // Sorts the latest marks in among the others, where there are more than so many.
+    fn freeze(&mut self, alloc: Global, most: usize) -> Result<(), Memory>
         ensures deaths { self.new.deaths ≡ self.old.deaths }
         ensures applied { self.new.applied ≡ self.old.applied }
         ensures spare { self.old.spare ≤ self.new.spare }
     {
-        if self.latest.len() > LATEST_MARKS {
+        if self.latest.len() > most {
             let marks = self.frozen.with(alloc, self.latest.as_slice())?;
             self.frozen = Frozen::of(alloc, marks)?;
             self.latest.clear();
         }
         Ok(())
     }
-}
-
-fn find_latest(marks: &[(u32, Timestamp)], row: u32) -> Option<Timestamp>
-    ensures { option_map (λ ts. ts.0) result ≡ death_at row (map death_of marks.now) }
-{
-    'marks: for mark in marks {
-        if mark.0 == row {
-            return Some(mark.1);
-        }
-    }
-    None
 }

@@ -9,11 +9,11 @@ use Rattle.seg_sealed.proofs.frozen.Frozen.with.Goals as goal
 pub returns-clause-same : goal.returns-clause-same
 returns-clause-same c =
     let all : c.extend_from_slice-2.new.self.items ≡ c.args.self.now ++ c.args.others.now = search rules in
-    let up : IsNonDecreasingBy (λ (mark : Mark). mark.0) c.sort_unstable_by_key.new.self.items = IsNonDecreasingBy-from_sort_by_key (λ (mark : Mark). mark.0) _ c.sort_unstable_by_key.ensures.sorted (λ a r q k. search rules) in
-    sorted_same c.extend_from_slice-2.new.self.items c.sort_unstable_by_key.new.self.items c.sort_unstable_by_key.ensures.permutation up (subst AreApart (sym all) c.requires) ∙ ap deaths_in all
+    let up : IsNonDecreasingBy (λ (mark : Mark). mark.0) c.sort_by_key.new.self.items = IsNonDecreasingBy-from_sort_by_key (λ (mark : Mark). mark.0) _ c.in_ok-sort_by_key.ensures.sorted (λ a r q k. search rules) in
+    sorted_same c.extend_from_slice-2.new.self.items c.sort_by_key.new.self.items c.sort_by_key.ensures.permutation up (subst AreApart (sym all) c.requires) ∙ ap deaths_in all
 
 pub returns-clause-rise : goal.returns-clause-rise
 returns-clause-rise c =
     let all : c.extend_from_slice-2.new.self.items ≡ c.args.self.now ++ c.args.others.now = search rules in
-    let up : IsNonDecreasingBy (λ (mark : Mark). mark.0) c.sort_unstable_by_key.new.self.items = IsNonDecreasingBy-from_sort_by_key (λ (mark : Mark). mark.0) _ c.sort_unstable_by_key.ensures.sorted (λ a r q k. search rules) in
-    sorted_rise c.extend_from_slice-2.new.self.items c.sort_unstable_by_key.new.self.items c.sort_unstable_by_key.ensures.permutation up (subst AreApart (sym all) c.requires)
+    let up : IsNonDecreasingBy (λ (mark : Mark). mark.0) c.sort_by_key.new.self.items = IsNonDecreasingBy-from_sort_by_key (λ (mark : Mark). mark.0) _ c.in_ok-sort_by_key.ensures.sorted (λ a r q k. search rules) in
+    sorted_rise c.extend_from_slice-2.new.self.items c.sort_by_key.new.self.items c.sort_by_key.ensures.permutation up (subst AreApart (sym all) c.requires)

@@ -6,11 +6,11 @@ use Rattle.seg_sealed.proofs.marks.Marks.mark.Goals as goal
 
 pub invariant_of-self : goal.invariant_of-self
 invariant_of-self c =
-    let none : death_at c.args.row (deaths_in (c.self.inside.frozen ++ c.self.inside.latest.items)) ≡ None = ap (λ (m : Marked). death_at c.args.row m.deaths) c.self.view_is ∙ c.requires.unmarked in
-    rw c.push_reserved.ensures.items (push_keeps c.self.inside.frozen c.self.inside.latest.items (c.args.row, c.args.ts) c.self.invariant none)
+    let none : death_at c.args.row (deaths_in (c.self.inside.frozen ++ c.self.inside.latest.marks)) ≡ None = ap (λ (m : Marked). death_at c.args.row m.deaths) c.self.view_is ∙ c.requires.unmarked in
+    rw c.push.ensures.marks (push_keeps c.self.inside.frozen c.self.inside.latest.marks (c.args.row, c.args.ts) c.self.invariant none)
 
 pub returns-clause-deaths : goal.returns-clause-deaths
 returns-clause-deaths c =
-    let none : death_at c.args.row (deaths_in (c.self.inside.frozen ++ c.self.inside.latest.items)) ≡ None = ap (λ (m : Marked). death_at c.args.row m.deaths) c.self.view_is ∙ c.requires.unmarked in
-    ap (λ xs. deaths_in (c.self.inside.frozen ++ xs)) c.push_reserved.ensures.items
-    ∙ push_deaths c.self.inside.frozen c.self.inside.latest.items c.args.row c.args.ts.0 none ∙ ap (λ (m : Marked). with_death c.args.row c.args.ts.0 m.deaths) c.self.view_is
+    let none : death_at c.args.row (deaths_in (c.self.inside.frozen ++ c.self.inside.latest.marks)) ≡ None = ap (λ (m : Marked). death_at c.args.row m.deaths) c.self.view_is ∙ c.requires.unmarked in
+    ap (λ xs. deaths_in (c.self.inside.frozen ++ xs)) c.push.ensures.marks
+    ∙ push_deaths c.self.inside.frozen c.self.inside.latest.marks c.args.row c.args.ts.0 none ∙ ap (λ (m : Marked). with_death c.args.row c.args.ts.0 m.deaths) c.self.view_is
