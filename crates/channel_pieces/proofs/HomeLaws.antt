@@ -54,10 +54,10 @@ placement_homes places (s ∷ pieces) number e =
 abbrev entry_of : MarkedSegment → ℕ × Placement
 entry_of s = (s.number, record { rows = length s.rows; homes = s.homes })
 
-cmp_same : (n q : ℕ) → q ≡ n → eq_by_cmp nat_cmp q n ≡ true
+pub cmp_same : (n q : ℕ) → q ≡ n → eq_by_cmp nat_cmp q n ≡ true
 cmp_same n q e = subst (λ k. eq_by_cmp nat_cmp k n ≡ true) (sym e) ((eq_by_cmp_equiv nat_cmp_total).refl n)
 
-cmp_other : (n q : ℕ) → q ≢ n → eq_by_cmp nat_cmp q n ≡ false
+pub cmp_other : (n q : ℕ) → q ≢ n → eq_by_cmp nat_cmp q n ≡ false
 cmp_other n q ne = go (eq_by_cmp nat_cmp q n) refl
   where
     go : (b : Bool) → eq_by_cmp nat_cmp q n ≡ b → b ≡ false
