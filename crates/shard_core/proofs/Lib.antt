@@ -9,3 +9,4 @@ pub mod RowLaws
 pub mod ViewLaws
 pub mod TurnLaws
 pub mod KeyLaws
+pub mod CountLaws

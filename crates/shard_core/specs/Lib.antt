@@ -5,3 +5,4 @@ pub mod Lagging
 pub mod Told
 pub mod Kept
 pub mod Shards
+pub mod Counting

@@ -7,7 +7,7 @@ use row_types::Key;
 
 /// The channel of a key, of so many channels.
 pub fn channel_of(channels: u32, key: Key) -> u32
-    requires some { 1 ≤ channels }
+    requires { 1 ≤ channels }
     ensures channel { result ≡ channel_of channels key.0 }
     ensures there { result < channels }
 {

@@ -5,6 +5,7 @@
 //! each call is one step of the core, and each view that a look gives is exact.
 #![tactic(auto)]
 
+mod counting;
 mod keys;
 mod kinds;
 mod lagging;
@@ -14,6 +15,7 @@ mod replies;
 mod shard;
 mod turns;
 
+pub use crate::counting::Counts;
 pub use crate::keys::channel_of;
 pub use crate::laws::{catching_up, looks, moves, notes};
 pub use crate::pending::Pending;
