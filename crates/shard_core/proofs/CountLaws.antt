@@ -1,23 +1,20 @@
 -- What pieces that are brought up count is what their channel counts; and what is pending changes no node's rows.
-use Rattle.std.proofs.Common.{◌≡◌, ℕ, suc, ◌+◌, ◌^◌, ◌<◌, ◌≤◌, Bool, true, false, not, cond, List, [], ◌∷◌, ◌++◌, length, length-append, map, Option, Some, None, refl, sym, ap, ap₂, subst, ◌∙◌, arith}
-use Rattle.std.specs.Prelude.{is_some}
-use Rattle.std.specs.List.{AllByRecursion, filter, list_any, sum_by, count_by}
+use Rattle.std.proofs.Common.{◌≡◌, ℕ, suc, ◌+◌, ◌^◌, ◌<◌, ◌≤◌, Bool, true, false, not, cond, List, [], ◌∷◌, ◌++◌, length, length-append, map, Option, Some, None, refl, sym, ap, ap₂, ◌∙◌, arith}
+use Rattle.std.specs.List.{AllByRecursion, filter, list_any, count_by}
 use Rattle.std.proofs.lemmas.List.Sums.{sum_by-cons, sum_by-append}
 use Rattle.hybrid_time.specs.declared.times.Timestamp.{Timestamp}
 use Rattle.log_model.specs.Places.{Placed}
 use Rattle.journal_model.specs.declared.notes.Home.{Home}
 use Rattle.journal_model.specs.declared.notes.Home.TheVariants.{Leader, Node}
 use Rattle.journal_model.specs.declared.notes.Note.{Note}
-use Rattle.journal_model.specs.Notes.{live_in}
 use Rattle.journal_model.specs.Puts.{put_at}
 use Rattle.journal_model.specs.Layouts.{Channel, Segment, is_home, rows_in, by_position, layout_of}
 use Rattle.journal_model.specs.Runs.{State, IsSound, AreCorrect, AreApart, Rise, all_rows}
-use Rattle.journal_model.specs.Counts.{Counts as ChannelCounts, is_alive, is_waiting, waiting_in, on_nodes, counts_of}
-use Rattle.journal_model.specs.Views.{Shown, shown}
+use Rattle.journal_model.specs.Counts.{Counts as ChannelCounts, is_alive, waiting_in, on_nodes, counts_of}
+use Rattle.journal_model.specs.Views.{shown}
 use Rattle.journal_model.proofs.ListLaws.{all_from}
 use Rattle.journal_model.proofs.PieceLaws.{by_position_in, count-by_position, by_position_rises}
 use Rattle.journal_model.proofs.PutLaws.{put_within}
-use Rattle.channel_journal.specs.Notes.{ChannelJournal}
 use Rattle.channel_pieces.specs.Pieces.{MarkedSegment, MarkedLayout, is_at, segment_marked, numbers_at, marked_by}
 use Rattle.channel_pieces.specs.declared.counting.PieceCounts.{PieceCounts}
 use Rattle.channel_pieces.specs.Counting.{is_unmarked, rows_of, live_rows_of, counted, IsLeast}
@@ -25,7 +22,7 @@ use Rattle.channel_pieces.specs.Counting as pieces
 use Rattle.shard_core.specs.declared.pending.Pending.{Pending}
 use Rattle.shard_core.specs.declared.pending.Pending.TheVariants.{Row, Closed}
 use Rattle.shard_core.specs.Shelves.{Shelves, shelf_of, shelves_of, shelves_in_pieces}
-use Rattle.shard_core.specs.Steps.{with_shown, after_all, after_pending, with_ends, caught_up}
+use Rattle.shard_core.specs.Steps.{with_shown, after_all, after_pending}
 use Rattle.shard_core.specs.Lagging.{IsBehind}
 use Rattle.shard_core.specs.Counting.{is_on, rows_on, waiting_numbers, numbers_on, IsLeastNode}
 

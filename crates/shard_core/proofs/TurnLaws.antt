@@ -1,5 +1,5 @@
 -- A shard behind turns: a note makes its journal longer by one and leaves its base.
-use Rattle.std.proofs.Common.{◌≡◌, ℕ, List, [], ◌∷◌, ◌++◌, ap, ap₂, ◌∙◌}
+use Rattle.std.proofs.Common.{◌≡◌, ℕ, [], ◌∷◌, ◌++◌, ap, ap₂, ◌∙◌}
 use Rattle.coarse_lists.specs.declared.collections.Collection.{Collection}
 use Rattle.journal_model.specs.declared.notes.Note.{Note}
 use Rattle.journal_model.specs.Layouts.{Channel}

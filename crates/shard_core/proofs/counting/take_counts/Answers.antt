@@ -1,6 +1,5 @@
-use Rattle.std.proofs.Common.{◌≡◌, ◌≤◌, ◌^◌, ℕ, length, ap, ◌∙◌, arith}
-use Rattle.journal_model.specs.Counts.{Counts, counts_of}
-use Rattle.shard_core.specs.Shelves.{shelves_of, shelves_in_pieces}
+use Rattle.std.proofs.Common.{◌≤◌, ◌^◌, length, ap, ◌∙◌, arith}
+use Rattle.journal_model.specs.Counts.{counts_of}
 use Rattle.shard_core.proofs.ViewLaws.{brought_up}
 use Rattle.shard_core.proofs.CountLaws.{rows_fit, shown_counts}
 use Rattle.shard_core.proofs.counting.take_counts.Goals as goal

@@ -1,4 +1,4 @@
-use Rattle.std.proofs.Common.{ap, subst}
+use Rattle.std.proofs.Common.{subst}
 use Rattle.std.specs.Arc.{arc_value}
 use Rattle.journal_model.specs.Layouts.{layout_of}
 use Rattle.channel_pieces.specs.Counting.{IsLeast}
