@@ -1,5 +1,5 @@
 -- Counting: the rows that did not die, the counts of one segment more, and the rows on each node.
-use Rattle.std.proofs.Common.{◌≡◌, ◌≢◌, ℕ, zero, suc, ◌+◌, ◌^◌, ◌<◌, ◌≤◌, Bool, true, false, not, cond, ◌&&◌, T, List, [], ◌∷◌, ◌++◌, length, length-append, map, take, get_or, Option, Some, None, refl, sym, ap, ap₂, subst, ◌∙◌, ⊎_elim, zero-add, arith}
+use Rattle.std.proofs.Common.{◌≡◌, ◌≢◌, ℕ, suc, ◌+◌, ◌^◌, ◌<◌, ◌≤◌, Bool, true, false, not, cond, ◌&&◌, T, List, [], ◌∷◌, ◌++◌, length, length-append, map, take, get_or, Option, Some, None, refl, sym, ap, ap₂, subst, ◌∙◌, ⊎_elim, zero-add, arith}
 use Rattle.std.specs.Prelude.{is_some}
 use Rattle.std.specs.List.{AllByRecursion, filter, sum_by, count_by}
 use Rattle.std.specs.Ordering.{nat_cmp, is_lt}
@@ -10,16 +10,15 @@ use Rattle.std.specs.FinMap as fin
 use Rattle.std.specs.FinMap.Entries.{below_all, is_sorted, by_order}
 use Rattle.std.proofs.lemmas.Bool.{cases_eq, cases_lt}
 use Rattle.std.proofs.lemmas.List.{map-append, take_more}
-use Rattle.std.proofs.lemmas.List.Sums.{sum_by-cons, sum_by_push, sum_by_more_le, length-filter, count_by-le-length}
+use Rattle.std.proofs.lemmas.List.Sums.{sum_by-cons, sum_by_push, sum_by_more_le, count_by-le-length}
 use Rattle.hybrid_time.specs.declared.times.Timestamp.{Timestamp}
 use Rattle.log_model.specs.Places.{Placed}
 use Rattle.log_model.proofs.LogLaws.{each_implied}
-use Rattle.journal_model.specs.declared.notes.Home.{Home}
 use Rattle.journal_model.specs.declared.notes.Home.TheVariants.{Leader, Node}
 use Rattle.journal_model.specs.Views.{Shown}
 use Rattle.seg_sealed.specs.Marks.{death_of, death_at, deaths_in}
 use Rattle.seg_sealed.specs.Parts.{AreDeathsOf, shown_from, shown_as}
-use Rattle.place_table.specs.Tables.{Placement, Table, IsChosen, rows_if, is_on}
+use Rattle.place_table.specs.Tables.{Placement, IsChosen, rows_if, is_on}
 use Rattle.place_table.specs.Tables.{rows_on as table_rows_on}
 use Rattle.channel_pieces.specs.declared.counting.PieceCounts.{PieceCounts}
 use Rattle.channel_pieces.specs.Pieces.{MarkedSegment, MarkedLayout, is_at, table_of}
