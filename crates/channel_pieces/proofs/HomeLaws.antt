@@ -1,7 +1,7 @@
 -- The homes of pieces in the table of places.
-use Rattle.std.proofs.Common.{◌≡◌, ◌≢◌, ℕ, suc, ◌+◌, ◌<◌, ◌≤◌, nat_eq, Bool, true, false, not, cond, List, [], ◌∷◌, ◌++◌, length, map, Option, Some, None, refl, sym, ap, ap₂, subst, ◌∙◌, ⊎_elim, eq-eqb, ne_eqb, arith}
+use Rattle.std.proofs.Common.{◌≡◌, ◌≢◌, ℕ, ◌<◌, Bool, true, false, not, cond, List, [], ◌∷◌, length, map, Option, Some, None, refl, sym, ap, ap₂, subst, ◌∙◌, ⊎_elim, eq-eqb, ne_eqb, arith}
 use Rattle.std.specs.List.{AllByRecursion, list_any}
-use Rattle.std.specs.Option.{option_map, IfSome}
+use Rattle.std.specs.Option.{option_map}
 use Rattle.std.specs.Ordering.{nat_cmp, eq_by_cmp}
 use Rattle.std.specs.Cmp.{nat_cmp_total, eq_by_cmp_equiv, Equal-is}
 use Rattle.std.specs.FinMap as fin
@@ -10,7 +10,6 @@ use Rattle.row_types.specs.declared.rows.Kind.{Kind}
 use Rattle.journal_model.specs.declared.notes.Home.{Home}
 use Rattle.journal_model.specs.declared.notes.Home.TheVariants.{Node}
 use Rattle.journal_model.specs.Layouts.{is_home}
-use Rattle.journal_model.specs.Views.{Shown}
 use Rattle.place_table.specs.declared.refusals.PlaceError.TheVariants.{NotThere, LastPlace}
 use Rattle.place_table.specs.Tables.{Placement, Table, with_homes, with_segments, rehomed_at, release_refused, last_refused}
 use Rattle.place_table.specs.Tables.{rehomed as rehomed_table}
@@ -54,10 +53,10 @@ placement_homes places (s ∷ pieces) number e =
 abbrev entry_of : MarkedSegment → ℕ × Placement
 entry_of s = (s.number, record { rows = length s.rows; homes = s.homes })
 
-cmp_same : (n q : ℕ) → q ≡ n → eq_by_cmp nat_cmp q n ≡ true
+pub cmp_same : (n q : ℕ) → q ≡ n → eq_by_cmp nat_cmp q n ≡ true
 cmp_same n q e = subst (λ k. eq_by_cmp nat_cmp k n ≡ true) (sym e) ((eq_by_cmp_equiv nat_cmp_total).refl n)
 
-cmp_other : (n q : ℕ) → q ≢ n → eq_by_cmp nat_cmp q n ≡ false
+pub cmp_other : (n q : ℕ) → q ≢ n → eq_by_cmp nat_cmp q n ≡ false
 cmp_other n q ne = go (eq_by_cmp nat_cmp q n) refl
   where
     go : (b : Bool) → eq_by_cmp nat_cmp q n ≡ b → b ≡ false

@@ -3,3 +3,4 @@ pub mod MarkLaws
 pub mod PieceLaws
 pub mod ListLaws
 pub mod HomeLaws
+pub mod CountLaws

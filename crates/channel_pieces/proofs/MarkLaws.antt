@@ -1,5 +1,5 @@
 -- Rows with their marks, and what some deaths make of them.
-use Rattle.std.proofs.Common.{◌≡◌, ◌≢◌, ℕ, zero, suc, ◌+◌, ◌<◌, ◌≤◌, nat_eq, Bool, true, false, cond, List, [], ◌∷◌, ◌++◌, length, map, take, drop, get_or, Option, Some, None, refl, sym, ap, ap₂, subst, ◌∙◌, ⊎_elim, eq-eqb, ne_eqb, length-append, arith}
+use Rattle.std.proofs.Common.{◌≡◌, ◌≢◌, ℕ, zero, suc, ◌+◌, ◌<◌, ◌≤◌, nat_eq, Bool, true, false, cond, List, [], ◌∷◌, ◌++◌, length, map, take, get_or, Option, Some, None, refl, sym, ap, ap₂, subst, ◌∙◌, ⊎_elim, eq-eqb, ne_eqb, length-append, arith}
 use Rattle.std.specs.List.{AllByRecursion}
 use Rattle.std.specs.Option.{option_map, option_or, IfSome}
 use Rattle.std.specs.Map.{lookup}
@@ -18,7 +18,7 @@ use Rattle.seg_sealed.specs.Marks.{Marked, death_at, with_death}
 use Rattle.seg_sealed.specs.Parts.{SegmentPart, AreDeathsOf, shown_from, shown_as}
 use Rattle.channel_pieces.specs.Pieces.{placed_of, death_in, marked_by}
 use Rattle.channel_pieces.specs.Fields.{Climb, places_in, index_from, index_in, hit_at, unless_marked, hits_of, with_hits, AreOpen, deaths_next, AreMarksOf, KeepsTail, IsPartOf, Piece, piece_of}
-use Rattle.channel_pieces.proofs.DeathLaws.{Death, all_at, IsIndexIn, index_there, none_from}
+use Rattle.channel_pieces.proofs.DeathLaws.{Death, all_at, IsIndexIn, index_there}
 
 -- ---- rows without their marks
 

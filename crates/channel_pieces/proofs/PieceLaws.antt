@@ -1,8 +1,8 @@
 -- The pieces of a channel: what each call makes of them, and what they keep.
-use Rattle.std.proofs.Common.{◌≡◌, ◌≢◌, ℕ, zero, suc, ◌+◌, ◌^◌, ◌<◌, ◌≤◌, nat_eq, nat_lt, Bool, true, false, not, cond, List, [], ◌∷◌, ◌++◌, length, map, take, drop, get_or, Option, Some, None, refl, sym, ap, ap₂, subst, ◌∙◌, ⊎_elim, eq-eqb, ne_eqb, append_assoc, append-nil, Result, Ok, Err, IfOk, OnErr, arith}
+use Rattle.std.proofs.Common.{◌≡◌, ◌≢◌, ℕ, zero, suc, ◌+◌, ◌^◌, ◌<◌, ◌≤◌, nat_eq, nat_lt, Bool, true, false, cond, List, [], ◌∷◌, ◌++◌, length, map, take, get_or, Option, Some, None, refl, sym, ap, ap₂, subst, ◌∙◌, ⊎_elim, eq-eqb, ne_eqb, append_assoc, append-nil, Result, Ok, Err, IfOk, OnErr, arith}
 use Rattle.std.specs.List.{AllByRecursion, filter}
 use Rattle.std.specs.List.Sorted.{IsNonDecreasingBy}
-use Rattle.std.specs.Option.{option_map, option_or, is_some, IfSome}
+use Rattle.std.specs.Option.{option_map}
 use Rattle.std.specs.Ordering.{nat_cmp, eq_by_cmp}
 use Rattle.std.specs.Cmp.{nat_cmp_total, eq_by_cmp_equiv, Equal-is}
 use Rattle.std.specs.FinMap as fin
@@ -10,13 +10,13 @@ use Rattle.std.proofs.lemmas.Bool.{cases_eq, eqb-true, eqb-false}
 use Rattle.hybrid_time.specs.declared.times.Timestamp.{Timestamp}
 use Rattle.row_types.specs.Bits.{IsDimension}
 use Rattle.row_types.specs.declared.rows.Kind.{Kind}
-use Rattle.log_model.specs.Places.{Placed, PlacedBefore, Rise, placed}
+use Rattle.log_model.specs.Places.{Placed, PlacedBefore, Rise}
 use Rattle.journal_model.specs.declared.notes.Home.{Home}
-use Rattle.journal_model.specs.declared.notes.Home.TheVariants.{Leader, Node}
+use Rattle.journal_model.specs.declared.notes.Home.TheVariants.{Leader}
 use Rattle.journal_model.specs.Views.{Shown}
 use Rattle.seg_sealed.specs.Segments.{SealedSegment, IsSealed, IsRowOf, sealed_rows, dim_of, kinds_of, kind_of}
 use Rattle.seg_sealed.specs.Marks.{Marked}
-use Rattle.seg_sealed.specs.Parts.{SegmentPart, shown_from, shown_as, shown_rows}
+use Rattle.seg_sealed.specs.Parts.{SegmentPart, shown_from, shown_rows}
 use Rattle.place_table.specs.Tables.{Placement, Table, at_leader, with_added, no_segments}
 use Rattle.channel_pieces.specs.Pieces.{MarkedSegment, MarkedLayout, placed_of, marked_by, death_in, segment_marked, after_close, after_deaths, segment_in, is_at, numbers_at, places_of}
 use Rattle.channel_pieces.specs.Fields.{Climb, Piece, MarkedTail, homes_of, homed, seen, Fits, IsPiece, rows_at, numbers_of, KeepsPieces, readied, committed, settled, tail_readied, tail_committed, piece_of}

@@ -1,7 +1,7 @@
 -- How the fields of the types are seen, and what they keep; only proofs need it.
-use Rattle.std.specs.Prelude.{◌≡◌, ℕ, suc, ◌<◌, ◌≤◌, nat_eq, if◌then◌else◌, List, [], ◌∷◌, ◌++◌, map, length, Option, Some, None}
+use Rattle.std.specs.Prelude.{◌≡◌, ℕ, suc, ◌+◌, ◌<◌, ◌≤◌, nat_eq, Bool, if◌then◌else◌, List, [], ◌∷◌, ◌++◌, map, length, Option, Some, None}
 use Rattle.std.specs.Option.{option_map, IfSome}
-use Rattle.std.specs.List.{AllByRecursion}
+use Rattle.std.specs.List.{AllByRecursion, count_by}
 use Rattle.std.specs.Ordering.{nat_cmp}
 use Rattle.std.specs.FinMap as fin
 use Rattle.hybrid_time.specs.declared.times.Timestamp.{Timestamp}
@@ -14,6 +14,8 @@ use Rattle.seg_sealed.specs.Segments.{SealedSegment, IsRowOf, position_of}
 use Rattle.seg_sealed.specs.Marks.{Marked, death_at, with_death}
 use Rattle.seg_sealed.specs.Parts.{SegmentPart, AreDeathsOf, shown_from, shown_rows}
 use Rattle.place_table.specs.Tables.{Placement, Table}
+use Rattle.channel_pieces.specs.declared.counting.PieceCounts.{PieceCounts}
+use Rattle.channel_pieces.specs.Counting.{is_unmarked}
 use Rattle.channel_pieces.specs.Pieces.{MarkedSegment, MarkedLayout, HasShape, placed_of, marked_by}
 
 -- ---- marks that are made of deaths
@@ -121,6 +123,12 @@ pub record IsPartOf (sealed : SealedSegment) (marks : Marked) (part : SegmentPar
 pub record KeepsPiece (sealed : SealedSegment) (marks : Marked) (next : Option Marked) (part : Option SegmentPart) : Type 0 where
   pub marks_fit : AreMarksOf (length sealed.rows) marks next
   pub part_is : IfSome part (IsPartOf sealed marks)
+
+-- counts with those of one segment more, which waits at the leader or stands on nodes
+abbrev pub counts_after : Bool → List Shown → PieceCounts → PieceCounts
+counts_after waits rows c =
+    if waits then record { tail = c.tail; waiting = c.waiting + 1; node_rows = c.node_rows; node_live = c.node_live }
+    else record { tail = c.tail; waiting = c.waiting; node_rows = c.node_rows + length rows; node_live = c.node_live + count_by is_unmarked rows }
 
 -- ---- the pieces of a channel
 

@@ -8,11 +8,10 @@ use Rattle.hybrid_time.specs.declared.times.Timestamp.{Timestamp}
 use Rattle.row_types.specs.declared.rows.Kind.{Kind}
 use Rattle.log_model.specs.Places.{Placed, placed}
 use Rattle.journal_model.specs.declared.notes.Home.{Home}
-use Rattle.journal_model.specs.declared.notes.Home.TheVariants.{Leader, Node}
+use Rattle.journal_model.specs.declared.notes.Home.TheVariants.{Leader}
 use Rattle.journal_model.specs.Layouts.{is_home}
 use Rattle.journal_model.specs.Views.{Shown}
-use Rattle.seg_sealed.specs.Segments.{IsRowOf}
-use Rattle.seg_sealed.specs.Parts.{SegmentPart, shown_as, shown_rows}
+use Rattle.seg_sealed.specs.Parts.{SegmentPart, shown_as}
 use Rattle.place_table.specs.Tables.{Table}
 
 -- a sealed segment: its number, its homes, and its rows in order, each with its mark

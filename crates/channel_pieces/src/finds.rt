@@ -59,7 +59,7 @@ pub(crate) fn numbers_with(
 }
 
 /// Whether a segment stands somewhere.
-fn has_home(places: &Places, number: u64, home: Home) -> bool
+pub(crate) fn has_home(places: &Places, number: u64, home: Home) -> bool
     ensures { result ≡ list_any (is_home home) (homes_of (fin.get places.now.segments number)) }
 {
     match places.homes(number) {

@@ -6,10 +6,12 @@
 //! and leaves it as it was; parts and tails that were given to a reader never change.
 #![tactic(auto)]
 
+mod counting;
 mod finds;
 mod marking;
 mod pieces;
 mod sealed_pieces;
 mod tails;
 
+pub use crate::counting::PieceCounts;
 pub use crate::pieces::Pieces;

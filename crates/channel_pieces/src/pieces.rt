@@ -9,9 +9,10 @@ ghost use Rattle.journal_model.specs.declared.notes.Home.TheVariants.{Leader, No
 ghost use Rattle.journal_model.specs.Layouts.{homes_after_load, homes_after_release};
 ghost use Rattle.seg_sealed.specs.Segments.{IsRowOf};
 ghost use Rattle.seg_sealed.specs.Parts.{AreDeathsOf, shown_from, shown_rows};
-ghost use Rattle.place_table.specs.Tables.{IsChosen};
-ghost use Rattle.channel_pieces.specs.Pieces.{no_pieces, placed_of, with_row, after_close, AreOnce, after_deaths, segment_in, with_homes, is_at, is_elsewhere, numbers_at, table_of, places_of, HasShape};
+ghost use Rattle.channel_pieces.specs.Pieces.{no_pieces, placed_of, with_row, after_close, AreOnce, after_deaths, segment_in, with_homes, is_at, is_elsewhere, numbers_at, places_of, HasShape};
+ghost use Rattle.channel_pieces.specs.Counting.{rows_of, counted, IsLeast};
 
+use crate::counting::{PieceCounts, count_pieces};
 use crate::finds::{find, numbers_with};
 use crate::marking::by_position;
 use crate::sealed_pieces::{SealedPiece, commit_all, parts_of, prepare_all};
@@ -198,9 +199,17 @@ impl Pieces {
 
     /// The node with the fewest rows, and of several such nodes the least; takes no memory.
     pub fn choose_node(&self) -> u32
-        ensures { IsChosen (table_of self.now) result }
+        ensures least { IsLeast self.now.nodes self.now.segments result }
     {
         self.places.choose_node()
+    }
+
+    /// What the pieces count; walks over segments, and over no rows.
+    pub fn counts(&self) -> PieceCounts
+        requires few { rows_of self.now.segments < 2 ^ 64 }
+        ensures { result ≡ counted self.now }
+    {
+        count_pieces(self.tail.len(), self.segments.as_slice(), &self.places)
     }
 
     /// The numbers of the segments that wait at the leader, rising.

@@ -1,11 +1,12 @@
 //! A sealed segment of a channel with the marks of its rows.
 
 ghost use Rattle.std.specs.Prelude.{◌≡◌, ℕ, List, ◌++◌, length, map, None, IfOk, OnOk, OnErr};
-ghost use Rattle.std.specs.List.{AllByRecursion};
+ghost use Rattle.std.specs.List.{AllByRecursion, count_by};
 ghost use Rattle.std.specs.Arc.{arc_value};
 ghost use Rattle.seg_sealed.specs.Parts.{AreDeathsOf, shown_rows};
 ghost use Rattle.row_types.specs.declared.rows.Kind.{Kind};
 ghost use Rattle.channel_pieces.specs.Pieces.{HasShape, places_of};
+ghost use Rattle.channel_pieces.specs.Counting.{is_unmarked};
 ghost use Rattle.channel_pieces.specs.Fields.{Climb, places_in, readied, committed, settled, piece_of, homed, IsPiece, IsPartOf, IsPartOfPiece};
 
 use crate::marking::with_deaths;
@@ -58,6 +59,22 @@ impl SealedPiece {
         ensures { result ≡ self.now.number }
     {
         self.sealed.number()
+    }
+
+    /// How many rows there are.
+    pub(crate) fn len(&self) -> u32
+        ensures { result ≡ length self.now.rows }
+    {
+        self.sealed.len()
+    }
+
+    /// How many rows did not die; takes no walk.
+    pub(crate) fn live(&self) -> u64
+        ensures { result ≡ count_by is_unmarked self.now.rows }
+    {
+        // Its contract says that deaths rise by their rows.
+        let _deaths = self.marks.deaths();
+        u64::from(self.sealed.len()) - self.marks.len()
     }
 
     /// A part for a reader. Want of memory leaves the piece as it was.

@@ -1,7 +1,6 @@
 -- Each call keeps the shard: one note more, what its journal told is pending, and its death is open.
 use Rattle.std.proofs.Common.{◌≡◌, ℕ, ◌+◌, ◌-◌, ◌^◌, ◌<◌, ◌≤◌, true, false, cond, List, [], ◌∷◌, ◌++◌, length, Option, Some, None, refl, sym, ap, ap₂, subst, ◌∙◌, arith, append-nil}
 use Rattle.std.specs.Prelude.{nat_eq, nat_lt, option_to_list}
-use Rattle.std.specs.List.{AllByRecursion}
 use Rattle.std.specs.Option.{option_map}
 use Rattle.std.proofs.lemmas.Bool.{le-ltb, lt-ltb}
 use Rattle.std.proofs.lemmas.List.{length_push}
@@ -26,7 +25,8 @@ use Rattle.channel_journal.specs.Outcomes.{ended_at, added_row, sealed_number}
 use Rattle.shard_core.specs.Shelves.{shelves_in_pieces}
 use Rattle.shard_core.specs.Steps.{closed_with, closed_full, closed_by, pending_row, pending_end, pending_of, dated, deaths_of, is_move}
 use Rattle.shard_core.specs.Told.{pending_told, deaths_told}
-use Rattle.shard_core.specs.Kept.{IsPutIn, LaggingPieces, HasShape, kinds_in, IsChannel, HasRoom, KeepsShard}
+use Rattle.shard_core.specs.Keys.{IsPutIn, IsKeyIn, ArePutsIn, AreKeysIn}
+use Rattle.shard_core.specs.Kept.{LaggingPieces, HasShape, kinds_in, IsChannel, HasRoom, KeepsShard}
 use Rattle.shard_core.specs.Shards.{ChannelShard, Steps}
 use Rattle.row_types.specs.declared.rows.Kind.{Kind as ColumnKind}
 use Rattle.coarse_lists.specs.Collections.{IsInRange}
@@ -34,20 +34,23 @@ use Rattle.channel_pieces.specs.Pieces.{MarkedLayout, no_pieces}
 use Rattle.shard_core.proofs.MoveLaws.{behind_none}
 use Rattle.shard_core.proofs.StepLaws.{noted}
 
-pub kept_note : (collection : Collection) (j k : ChannelJournal) (l m : LaggingPieces) (note : Note) → KeepsShard collection j l → IsSound j.channel j.state → IsPutIn collection note.kind → is_move note.kind ≡ false → Appends j k note
+pub kept_note : (collection : Collection) (j k : ChannelJournal) (l m : LaggingPieces) (note : Note) → KeepsShard collection j l → IsSound j.channel j.state → IsPutIn collection note.kind × IsKeyIn collection.channels j.channel.number note.kind → is_move note.kind ≡ false → Appends j k note
     → m.pending ≡ l.pending ++ pending_of j.channel j.state.notes note.kind → m.deaths ≡ l.deaths ++ deaths_of j.state.notes note.kind → m.pieces ≡ l.pieces
     → KeepsShard collection k m
 kept_note collection j k l m note s sound put stays a p d e = record {
   range = s.range;
   channel = subst IsChannel (sym a.channel) s.channel;
+  there = subst (λ (c : Channel). c.number < collection.channels) (sym a.channel) s.there;
   seal = ap (λ (c : Channel). c.seal_rows) a.channel ∙ s.seal;
-  puts = subst (λ (st : State). AllByRecursion (λ n. IsPutIn collection n.kind) st.notes) (sym a.state) (each-append (λ n. IsPutIn collection n.kind) j.state.notes (note ∷ []) s.puts (put, tt));
+  puts = subst (λ (st : State). ArePutsIn collection st.notes) (sym a.state) (each-append (λ n. IsPutIn collection n.kind) j.state.notes (note ∷ []) s.puts (put.0, tt));
+  keys = subst (λ (c : Channel). AreKeysIn collection.channels c.number k.state.notes) (sym a.channel)
+      (subst (λ (st : State). AreKeysIn collection.channels j.channel.number st.notes) (sym a.state) (each-append (λ n. IsKeyIn collection.channels j.channel.number n.kind) j.state.notes (note ∷ []) s.keys (put.1, tt)));
   shape = subst (HasShape collection.dim (kinds_in collection.schema.columns) collection.nodes) (sym e) s.shape;
   behind = rw (a.channel, a.state, p, d, e) (noted j.channel j.state.notes note l.pending l.deaths (shelves_in_pieces l.pieces) s.behind sound.rows.correct stays);
 }
 
 -- a note that leaves nothing to be brought up
-pub kept_plain : (collection : Collection) (j k : ChannelJournal) (l : LaggingPieces) (note : Note) → KeepsShard collection j l → IsSound j.channel j.state → IsPutIn collection note.kind → is_move note.kind ≡ false → Appends j k note
+pub kept_plain : (collection : Collection) (j k : ChannelJournal) (l : LaggingPieces) (note : Note) → KeepsShard collection j l → IsSound j.channel j.state → IsPutIn collection note.kind × IsKeyIn collection.channels j.channel.number note.kind → is_move note.kind ≡ false → Appends j k note
     → pending_of j.channel j.state.notes note.kind ≡ [] → deaths_of j.state.notes note.kind ≡ []
     → KeepsShard collection k l
 kept_plain collection j k l note s sound put stays a none quiet =
@@ -138,7 +141,7 @@ pub started : (collection : Collection) (channel dim nodes rows : ℕ) (kinds : 
     → j.channel ≡ record { number = channel; seal_rows = rows } → j.state ≡ record { notes = []; floor = 0 }
     → l ≡ record { pieces = pieces; pending = []; deaths = []; room = 0 } → pieces ≡ no_pieces dim kinds nodes
     → HasRoom 0 (length j.state.notes) j.spare l.room × KeepsShard collection j l
-started collection channel dim nodes rows kinds j l pieces range low d n r k ch st la pi =
+started collection channel dim nodes rows kinds j l pieces range below d n r k ch st la pi =
     let most : collection.channels ≤ 16 = range.channels.1 in
     let least : 2 ≤ collection.seal_rows = range.seal_rows.0 in
     let top : collection.seal_rows ≤ 65536 = range.seal_rows.1 in
@@ -149,7 +152,9 @@ started collection channel dim nodes rows kinds j l pieces range low d n r k ch 
         range = range;
         channel = subst IsChannel (sym ch) (record { low = omega arith; least = omega arith; most = omega arith });
         seal = ap (λ (c : Channel). c.seal_rows) ch ∙ r;
-        puts = subst (λ (s : State). AllByRecursion (λ n. IsPutIn collection n.kind) s.notes) (sym st) tt;
+        there = subst (λ (c : Channel). c.number < collection.channels) (sym ch) below;
+        puts = subst (λ (s : State). ArePutsIn collection s.notes) (sym st) tt;
+        keys = subst (λ (s : State). AreKeysIn collection.channels j.channel.number s.notes) (sym st) tt;
         shape = subst (HasShape collection.dim (kinds_in collection.schema.columns) collection.nodes) (sym shows) (record { dim_is = d; kinds_are = k; nodes_are = n });
         behind = rw (st, la, pi) (behind_none j.channel);
       },

@@ -7,3 +7,6 @@ pub mod SourceLaws
 pub mod KeepLaws
 pub mod RowLaws
 pub mod ViewLaws
+pub mod TurnLaws
+pub mod KeyLaws
+pub mod CountLaws

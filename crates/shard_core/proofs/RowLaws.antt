@@ -22,7 +22,7 @@ use Rattle.seg_sealed.specs.Parts.{SegmentPart, shown_from, shown_rows}
 use Rattle.channel_pieces.specs.Pieces.{placed_of, places_of}
 use Rattle.channel_view.specs.Views.{AreRowsOf}
 use Rattle.shard_core.specs.Shelves.{shelf_of}
-use Rattle.shard_core.specs.Kept.{IsPutIn}
+use Rattle.shard_core.specs.Keys.{IsPutIn}
 use Rattle.shard_core.proofs.FrontLaws.{places_back}
 use Rattle.shard_core.proofs.SourceLaws.{put_is, each_unmapped}
 

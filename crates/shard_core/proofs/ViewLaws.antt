@@ -23,7 +23,8 @@ use Rattle.channel_pieces.specs.Pieces.{MarkedLayout, places_of}
 use Rattle.channel_view.specs.Views.{ChannelView}
 use Rattle.shard_core.specs.Shelves.{shelves_of, shelves_in_pieces, seen_in}
 use Rattle.shard_core.specs.Lagging.{IsBehind}
-use Rattle.shard_core.specs.Kept.{kinds_in, IsPutOf, IsPutIn, LaggingPieces, IsSource, HasRoom, KeepsShard}
+use Rattle.shard_core.specs.Keys.{IsPutIn}
+use Rattle.shard_core.specs.Kept.{kinds_in, IsPutOf, LaggingPieces, IsSource, IsBehindOf, HasRoom, KeepsShard}
 use Rattle.shard_core.specs.Shards.{ChannelShard, IsViewOf}
 use Rattle.shard_core.proofs.ShelfLaws.{view_seen}
 use Rattle.shard_core.proofs.MoveLaws.{shows_all}
@@ -67,11 +68,14 @@ source_of collection j l spare room h k sound = record {
 
 -- ---- pieces that are brought up
 
-pub shows_journal : (collection : Collection) (j : ChannelJournal) (l : LaggingPieces) → KeepsShard collection j l → l.pending ≡ [] → l.deaths ≡ [] → shelves_in_pieces l.pieces ≡ shelves_of j.channel j.state.notes
-shows_journal collection j l k none quiet =
+pub brought_up : (j : ChannelJournal) (l : LaggingPieces) → IsBehindOf j l → l.pending ≡ [] → l.deaths ≡ [] → shelves_in_pieces l.pieces ≡ shelves_of j.channel j.state.notes
+brought_up j l behind none quiet =
     shows_all j.channel j.state.notes (shelves_in_pieces l.pieces)
     (subst (λ ds. IsBehind j.channel j.state.notes [] ds (shelves_in_pieces l.pieces)) quiet
-    (subst (λ ps. IsBehind j.channel j.state.notes ps l.deaths (shelves_in_pieces l.pieces)) none k.behind))
+    (subst (λ ps. IsBehind j.channel j.state.notes ps l.deaths (shelves_in_pieces l.pieces)) none behind))
+
+pub shows_journal : (collection : Collection) (j : ChannelJournal) (l : LaggingPieces) → KeepsShard collection j l → l.pending ≡ [] → l.deaths ≡ [] → shelves_in_pieces l.pieces ≡ shelves_of j.channel j.state.notes
+shows_journal collection j l k none quiet = brought_up j l k.behind none quiet
 
 pub view_rows : (channel : Channel) (floor low tick : ℕ) (notes : List Note) (pieces : MarkedLayout) (tail : List Shown) (parts : List (List Shown)) → shelves_in_pieces pieces ≡ shelves_of channel notes
     → tail ≡ pieces.tail → parts ≡ places_of pieces.segments → low ≡ floor → tick ≡ tick_of notes

@@ -5,7 +5,7 @@ use Rattle.hybrid_time.specs.declared.times.Timestamp.{Timestamp}
 use Rattle.row_types.specs.declared.rows.Kind.{Kind as ColumnKind}
 use Rattle.row_types.specs.Schemas.{Columns}
 use Rattle.coarse_lists.specs.declared.collections.Collection.{Collection}
-use Rattle.coarse_lists.specs.Collections.{IsInRange, IsRowOf}
+use Rattle.coarse_lists.specs.Collections.{IsInRange}
 use Rattle.log_model.specs.Places.{Placed, placed}
 use Rattle.journal_model.specs.declared.notes.Kind.{Kind}
 use Rattle.journal_model.specs.declared.notes.Kind.TheVariants.{Put}
@@ -18,6 +18,7 @@ use Rattle.channel_journal.specs.Notes.{ChannelJournal}
 use Rattle.channel_pieces.specs.Pieces.{MarkedLayout, placed_of}
 use Rattle.shard_core.specs.declared.pending.Pending.{Pending}
 use Rattle.shard_core.specs.declared.pending.Pending.TheVariants.{Row, Closed}
+use Rattle.shard_core.specs.Keys.{ArePutsIn, AreKeysIn}
 use Rattle.shard_core.specs.Shelves.{Shelves, shelves_in_pieces}
 use Rattle.shard_core.specs.Lagging.{IsBehind, Fits, Closes}
 
@@ -33,11 +34,6 @@ IsPutOf dim kinds _ = Unit {0}
 
 abbrev pub ArePutsOf : ℕ → List ColumnKind → List Note → Type 0
 ArePutsOf dim kinds notes = AllByRecursion (λ note. IsPutOf dim kinds note.kind) notes
-
--- a put is of a row of the collection
-abbrev pub IsPutIn : Collection → Kind → Type 0
-IsPutIn collection (Put ts how row) = IsRowOf collection row
-IsPutIn collection _ = Unit {0}
 
 -- ---- pieces that lag behind
 
@@ -96,7 +92,9 @@ pub record HasRoom (spare notes journal room : ℕ) : Type 0 where
 pub record KeepsShard (collection : Collection) (journal : ChannelJournal) (l : LaggingPieces) : Type 0 where
   pub range : IsInRange collection
   pub channel : IsChannel journal.channel
+  pub there : journal.channel.number < collection.channels
   pub seal : journal.channel.seal_rows ≡ collection.seal_rows
-  pub puts : AllByRecursion (λ note. IsPutIn collection note.kind) journal.state.notes
+  pub puts : ArePutsIn collection journal.state.notes
+  pub keys : AreKeysIn collection.channels journal.channel.number journal.state.notes
   pub shape : HasShape collection.dim (kinds_in collection.schema.columns) collection.nodes l.pieces
   pub behind : IsBehindOf journal l

@@ -25,6 +25,15 @@ pub record ChannelShard : Type 0 where
   pub state : State
   pub spare : ℕ
 
+-- what no turn changes of a shard
+pub record ChannelBase : Type 0 where
+  pub channel : Channel
+  pub collection : Collection
+  pub floor : ℕ
+
+abbrev pub base_of : ChannelShard → ChannelBase
+base_of s = record { channel = s.channel; collection = s.collection; floor = s.state.floor }
+
 -- a note is a step of the core: it is allowed, and it stands behind all others; the collection, the channel and the
 -- floor stay, and one note less is taken without memory
 pub record Steps (old new : ChannelShard) (note : Note) : Type 0 where

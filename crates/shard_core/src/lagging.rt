@@ -1,10 +1,12 @@
 //! Pieces that lag behind their journal, and how they are brought up.
 
-ghost use Rattle.std.specs.Prelude.{◌≡◌, ◌+◌, ◌<◌, ◌≤◌, ◌++◌, ◌∷◌, [], length, map, drop, Some, None, option_to_list, vec_len, vec_capacity, IfOk, OnOk, OnErr};
+ghost use Rattle.std.specs.Prelude.{◌≡◌, ◌+◌, ◌^◌, ◌<◌, ◌≤◌, ◌++◌, ◌∷◌, [], length, map, drop, Some, None, option_to_list, vec_len, vec_capacity, IfOk, OnOk, OnErr};
 ghost use Rattle.std.specs.Option.{option_map};
 ghost use Rattle.channel_journal.specs.Outcomes.{ended_row, sealed_number, segment_number};
 ghost use Rattle.seg_sealed.specs.Parts.{AreDeathsOf, shown_from, shown_rows};
-ghost use Rattle.channel_pieces.specs.Pieces.{no_pieces, placed_of, places_of};
+ghost use Rattle.journal_model.specs.declared.notes.Home.TheVariants.{Leader, Node};
+ghost use Rattle.channel_pieces.specs.Pieces.{no_pieces, placed_of, places_of, numbers_at};
+ghost use Rattle.channel_pieces.specs.Counting.{rows_of, counted, IsLeast};
 ghost use Rattle.shard_core.specs.Shelves.{shelves_in_pieces};
 ghost use Rattle.shard_core.specs.Steps.{after_pending, after_all, pending_end};
 ghost use Rattle.shard_core.specs.Told.{pending_told, deaths_told};
@@ -12,7 +14,7 @@ ghost use Rattle.shard_core.specs.Kept.{IsShapedAs, IsSource, IsBehindOf, Pends,
 
 use crate::pending::Pending;
 use channel_journal::{Journal, PutOutcome, RemoveOutcome};
-use channel_pieces::Pieces;
+use channel_pieces::{PieceCounts, Pieces};
 use growing_segment::SharedTail;
 use hybrid_time::Timestamp;
 use journal_model::Kind;
@@ -134,6 +136,35 @@ impl Lagging {
             self.deaths.clear();
         }
         Ok(())
+    }
+
+    /// What the pieces count, as they stand.
+    pub(crate) fn counts(&self) -> PieceCounts
+        requires few { rows_of self.now.pieces.segments < 2 ^ 64 }
+        ensures { result ≡ counted self.now.pieces }
+    {
+        self.pieces.counts()
+    }
+
+    /// The numbers of the segments that wait at the leader, as the pieces have them.
+    pub(crate) fn waiting(&self, alloc: Global) -> Result<Vec<u64>, Memory>
+        ensures { IfOk result (λ numbers. numbers.items ≡ numbers_at Leader self.now.pieces.segments) }
+    {
+        self.pieces.waiting(alloc)
+    }
+
+    /// The numbers of the segments on a node, as the pieces have them.
+    pub(crate) fn on_node(&self, alloc: Global, node: u32) -> Result<Vec<u64>, Memory>
+        ensures { IfOk result (λ numbers. numbers.items ≡ numbers_at (Node node) self.now.pieces.segments) }
+    {
+        self.pieces.on_node(alloc, node)
+    }
+
+    /// The node with the fewest rows, as the pieces stand; what is pending changes nothing of that.
+    pub(crate) fn choose_node(&self) -> u32
+        ensures { IsLeast self.now.pieces.nodes self.now.pieces.segments result }
+    {
+        self.pieces.choose_node()
     }
 
     /// The rows of the tail and their marks, as the pieces have them.

@@ -5,14 +5,20 @@
 //! each call is one step of the core, and each view that a look gives is exact.
 #![tactic(auto)]
 
+mod counting;
+mod keys;
 mod kinds;
 mod lagging;
 mod laws;
 mod pending;
 mod replies;
 mod shard;
+mod turns;
 
+pub use crate::counting::Counts;
+pub use crate::keys::channel_of;
 pub use crate::laws::{catching_up, looks, moves, notes};
 pub use crate::pending::Pending;
 pub use crate::replies::{Looked, PutReply, SealReply};
 pub use crate::shard::Shard;
+pub use crate::turns::{ShardBase, turn_notes};

@@ -11,6 +11,7 @@ ghost use Rattle.journal_model.specs.Answers.{Sealed, answer_at};
 ghost use Rattle.journal_model.specs.Runs.{IsSound};
 ghost use Rattle.journal_model.specs.Views.{IsExact};
 ghost use Rattle.channel_view.specs.Views.{view_in};
+ghost use Rattle.shard_core.specs.Keys.{channel_of, ArePutsIn, AreKeysIn};
 ghost use Rattle.shard_core.specs.Shards.{Steps, put_reply, segment_of, rows_of, looked_reply, IfServed, IsViewOf, shard_of};
 ghost use Rattle.shard_core.specs.Steps.{closed_by};
 ghost use Rattle.shard_core.specs.Kept.{KeepsShard};
@@ -35,10 +36,10 @@ use std::sync::Arc;
 /// memory.
 #[derive(Drop)]
 pub struct Shard {
-    collection: Arc<Collection, Global>,
-    spare: u64,
-    journal: Journal,
-    lagging: Lagging,
+    pub(crate) collection: Arc<Collection, Global>,
+    pub(crate) spare: u64,
+    pub(crate) journal: Journal,
+    pub(crate) lagging: Lagging,
 }
 
 impl Model for Shard {
@@ -115,6 +116,7 @@ impl Shard {
         requires dated { 1 ≤ ts.0 }
         requires follows { may_follow self.old.state.notes (note_of by line (Put ts how row)) ≡ true }
         requires fits { IsRowOf self.old.collection row }
+        requires channel { channel_of self.old.collection.channels row.key.0 ≡ self.old.channel.number }
         ensures step { Steps self.old self.new (note_of by line (Put ts how row)) }
         ensures reply { result ≡ put_reply how (fin.contains_key (live_in self.old.state.notes) row.key.0) }
     {
@@ -136,6 +138,7 @@ impl Shard {
         requires room { 1 ≤ self.old.spare }
         requires dated { 1 ≤ ts.0 }
         requires follows { may_follow self.old.state.notes (note_of by line (Remove ts key)) ≡ true }
+        requires channel { channel_of self.old.collection.channels key.0 ≡ self.old.channel.number }
         ensures step { Steps self.old self.new (note_of by line (Remove ts key)) }
         ensures reply { result ≡ fin.contains_key (live_in self.old.state.notes) key.0 }
     {
@@ -240,12 +243,30 @@ impl Shard {
         self.journal.set_floor(ts);
     }
 
-    /// The collection of the channel. The state of a shard is always sound.
+    /// The collection of the channel. Each put of the journal is of one of its rows.
     pub fn collection(&self) -> &Collection
         ensures collection { result.now ≡ self.now.collection }
         ensures range { IsInRange result.now }
+        ensures puts { ArePutsIn result.now self.now.state.notes }
     {
         &self.collection
+    }
+
+    /// The collection with one owner more. Want of memory is the only error: there can be too many.
+    pub fn shared_collection(&self) -> Result<Arc<Collection, Global>, Memory>
+        ensures { IfOk result (λ shared. arc_value shared ≡ self.now.collection) }
+    {
+        Ok(Arc::try_clone(&self.collection)?)
+    }
+
+    /// The number of the channel. Each put and each remove of the journal is of one of its keys.
+    pub fn channel(&self) -> u32
+        ensures number { result ≡ self.now.channel.number }
+        ensures there { result < self.now.collection.channels }
+        ensures seal_rows { self.now.channel.seal_rows ≡ self.now.collection.seal_rows }
+        ensures keys { AreKeysIn self.now.collection.channels result self.now.state.notes }
+    {
+        self.journal.channel()
     }
 
     /// The timestamp of the last tick, or 0.

@@ -12,7 +12,7 @@ invariant_of-self c =
     let note = note_of c.args.by c.args.line (Look c.args.guarantee) in
     let one : 1 ≤ c.self.inside.spare = subst (λ (s : ChannelShard). 1 ≤ s.spare) (sym c.self.view_is) c.requires.room in (
       room_less c.self.inside.spare c.self.inside.lagging.room c.self.inside.lagging.room c.self.inside.journal c.note_look.new.self note c.self.invariant.0 one c.note_look.ensures.note (omega arith),
-      kept_plain (arc_value c.self.inside.collection) c.self.inside.journal c.note_look.new.self c.self.inside.lagging note c.self.invariant.1 c.len.ensures.sound tt refl c.note_look.ensures.note refl refl,
+      kept_plain (arc_value c.self.inside.collection) c.self.inside.journal c.note_look.new.self c.self.inside.lagging note c.self.invariant.1 c.len.ensures.sound (tt, tt) refl c.note_look.ensures.note refl refl,
     )
 
 pub returns : goal.returns

@@ -17,7 +17,7 @@ invariant_of-self c =
     let one : 1 ≤ c.self.inside.spare = subst (λ (s : ChannelShard). 1 ≤ s.spare) (sym c.self.view_is) c.requires.room in
     let none : ◌≡◌ {A = Option ℕ} None (closed_by j.channel j.state.notes (Seal c.args.ts)) = ap segment_number (sym c.in-Empty.is) ∙ seal_told j k note c.seal.ensures.note c.args.ts (segment_number c.seal.result) refl c.seal.ensures.sealed in (
       room_less c.self.inside.spare c.self.inside.lagging.room c.self.inside.lagging.room j k note c.self.invariant.0 one c.seal.ensures.note (omega arith),
-      kept_plain (arc_value c.self.inside.collection) j k c.self.inside.lagging note c.self.invariant.1 c.len.ensures.sound tt refl c.seal.ensures.note (ap pending_end (sym none)) refl,
+      kept_plain (arc_value c.self.inside.collection) j k c.self.inside.lagging note c.self.invariant.1 c.len.ensures.sound (tt, tt) refl c.seal.ensures.note (ap pending_end (sym none)) refl,
     )
 
 pub invariant_of-self-in-Segment : goal.invariant_of-self-in-Segment
@@ -29,7 +29,7 @@ invariant_of-self-in-Segment c =
     let one : 1 ≤ c.self.inside.spare = subst (λ (s : ChannelShard). 1 ≤ s.spare) (sym c.self.view_is) c.requires.room in
     let some : Some c.in-Segment.number ≡ closed_by j.channel j.state.notes (Seal c.args.ts) = ap segment_number (sym c.in-Segment.is) ∙ seal_told j k note c.seal.ensures.note c.args.ts (segment_number c.seal.result) refl c.seal.ensures.sealed in (
       room_less c.self.inside.spare l.room c.close.new.self.room j k note c.self.invariant.0 one c.seal.ensures.note c.close.ensures.room,
-      kept_note (arc_value c.self.inside.collection) j k l c.close.new.self note c.self.invariant.1 c.len.ensures.sound tt refl c.seal.ensures.note
+      kept_note (arc_value c.self.inside.collection) j k l c.close.new.self note c.self.invariant.1 c.len.ensures.sound (tt, tt) refl c.seal.ensures.note
           (c.close.ensures.pending ∙ ap (λ o. l.pending ++ pending_end o) some)
           (c.close.ensures.deaths ∙ sym (append-nil l.deaths))
           c.close.ensures.pieces,
