@@ -7,3 +7,5 @@ pub mod SourceLaws
 pub mod KeepLaws
 pub mod RowLaws
 pub mod ViewLaws
+pub mod PlaceLaws
+pub mod MovedLaws

@@ -4,3 +4,6 @@ pub mod Lagging
 pub mod Told
 pub mod Kept
 pub mod Shards
+pub mod Moves
+pub mod Found
+pub mod Least

@@ -8,11 +8,16 @@
 mod kinds;
 mod lagging;
 mod laws;
+mod moves;
+mod moving;
 mod pending;
+mod refusals;
 mod replies;
 mod shard;
 
 pub use crate::laws::{catching_up, looks, moves, notes};
+pub use crate::moves::begun_moves;
+pub use crate::moving::{Back, Moving};
 pub use crate::pending::Pending;
 pub use crate::replies::{Looked, PutReply, SealReply};
 pub use crate::shard::Shard;

@@ -35,10 +35,10 @@ use std::sync::Arc;
 /// memory.
 #[derive(Drop)]
 pub struct Shard {
-    collection: Arc<Collection, Global>,
-    spare: u64,
-    journal: Journal,
-    lagging: Lagging,
+    pub(crate) collection: Arc<Collection, Global>,
+    pub(crate) spare: u64,
+    pub(crate) journal: Journal,
+    pub(crate) lagging: Lagging,
 }
 
 impl Model for Shard {
