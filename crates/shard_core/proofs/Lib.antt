@@ -9,3 +9,4 @@ pub mod RowLaws
 pub mod ViewLaws
 pub mod PlaceLaws
 pub mod MovedLaws
+pub mod LentLaws

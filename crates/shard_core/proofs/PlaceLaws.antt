@@ -1,5 +1,5 @@
 -- Homes that are found, and what refuses calls by them.
-use Rattle.std.proofs.Common.{◌≡◌, ℕ, Bool, true, false, cond, not, ◌&&◌, ◌||◌, List, [], ◌∷◌, map, Option, Some, None, refl, sym, ap, ap₂, subst, ◌∙◌, inl, inr, eqb-eq}
+use Rattle.std.proofs.Common.{◌≡◌, ℕ, Bool, true, false, cond, not, ◌&&◌, ◌||◌, List, [], ◌∷◌, map, Option, Some, None, refl, sym, ap, ap₂, subst, ◌∙◌, inl, inr, eqb-true}
 use Rattle.std.specs.Prelude.{nat_eq}
 use Rattle.std.specs.List.{list_any}
 use Rattle.std.specs.Option.{option_map, option_or}
@@ -112,18 +112,18 @@ pub record IsShown (notes : List Note) (segments : List Segment) (number : ℕ) 
 
 pub is_shown : (notes : List Note) (segments : List Segment) (number : ℕ) → list_any (λ (s : Segment). nat_eq s.number number) segments ≡ true → IsShown notes segments number
 is_shown notes [] number e = absurd (false≢true e)
-is_shown notes (s ∷ segments) number e = go (nat_eq s.number number) refl e
+is_shown notes (s ∷ segments) number e = go (nat_eq s.number number) refl (λ h. is_shown notes segments number h) e
   where
-    go : (b : Bool) → nat_eq s.number number ≡ b → (b || list_any (λ (z : Segment). nat_eq z.number number) segments) ≡ true → IsShown notes (s ∷ segments) number
-    go true is h = record {
+    go : (b : Bool) → nat_eq s.number number ≡ b → (list_any (λ (z : Segment). nat_eq z.number number) segments ≡ true → IsShown notes segments number) → (b || list_any (λ (z : Segment). nat_eq z.number number) segments) ≡ true → IsShown notes (s ∷ segments) number
+    go true is more h = record {
       segment = s;
       there = inl refl;
-      same = eqb-eq s.number number is;
+      same = eqb-true s.number number is;
       is = ap (λ b. cond b (Some (shelf_of notes s)) (segment_in (map (shelf_of notes) segments) number)) is;
       homes = sym (ap (λ b. cond b s.homes (homes_in segments number)) is);
     }
-    go false is h =
-        let rest = is_shown notes segments number h in
+    go false is more h =
+        let rest = more h in
         record {
           segment = rest.segment;
           there = inr rest.there;

@@ -8,7 +8,7 @@
 mod kinds;
 mod lagging;
 mod laws;
-mod moves;
+mod move_calls;
 mod moving;
 mod pending;
 mod refusals;
@@ -16,7 +16,7 @@ mod replies;
 mod shard;
 
 pub use crate::laws::{catching_up, looks, moves, notes};
-pub use crate::moves::begun_moves;
+pub use crate::move_calls::begun_moves;
 pub use crate::moving::{Back, Moving};
 pub use crate::pending::Pending;
 pub use crate::replies::{Looked, PutReply, SealReply};

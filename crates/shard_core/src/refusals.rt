@@ -13,7 +13,7 @@ use journal_model::{Home, MoveError};
 
 /// Why a move of a segment from a home is refused; `homes` are those of a segment that is there.
 pub(crate) fn why_not_moved(segment: u64, homes: Option<&[Home]>, from: Home) -> Option<MoveError>
-    ensures { result ≡ move_refused segment (option_map (λ homes. homes.now) homes) from }
+    ensures { result ≡ move_refused segment (option_map (λ found. found.now) homes.entry) from }
 {
     match homes {
         Some(homes) => why_not_from(segment, homes, from),
@@ -28,7 +28,7 @@ pub(crate) fn why_not_loaded(
     from: Home,
     node: u32,
 ) -> Option<MoveError>
-    ensures { result ≡ load_refused segment (option_map (λ homes. homes.now) homes) from node }
+    ensures { result ≡ load_refused segment (option_map (λ found. found.now) homes.entry) from node }
 {
     let Some(homes) = homes else {
         return Some(MoveError::Gone { segment });
@@ -44,7 +44,7 @@ pub(crate) fn why_not_loaded(
 
 /// Why the place of a segment on a node is not released.
 pub(crate) fn why_not_released(segment: u64, homes: Option<&[Home]>, node: u32) -> Option<MoveError>
-    ensures { result ≡ release_refused segment (option_map (λ homes. homes.now) homes) node }
+    ensures { result ≡ release_refused segment (option_map (λ found. found.now) homes.entry) node }
 {
     let Some(homes) = homes else {
         return Some(MoveError::Gone { segment });

@@ -40,7 +40,7 @@ impl Shard {
         ensures cause { IfErr result (λ why. (why ≡ error.Memory) ⊎ (move_refusal (layout_of self.old.channel self.old.state.notes) segment from ≡ Some why)) }
         ensures same { self.new ≡ self.old }
     {
-        if let Some(why) = self.move_refusal(segment, from) {
+        if let Some(why) = self.refuse_move(segment, from) {
             return Err(why);
         }
         let begun = self.journal.len();
@@ -81,6 +81,8 @@ impl Shard {
         ensures given_back { IfErr result (λ back. back.value ≡ (moving, part)) }
         ensures err { OnErr result (self.new ≡ self.old) }
     {
+        // Its contract says that the state is sound.
+        let _ = self.journal.len();
         let segment = moving.part.sealed().number();
         match self.add_place(alloc, by, line, segment, moving.home, node) {
             Ok(()) => Ok(()),
@@ -109,9 +111,11 @@ impl Shard {
         ensures cause { IfErr result (λ why. (why ≡ error.Memory) ⊎ (release_refusal (layout_of self.old.channel self.old.state.notes) segment node ≡ Some why)) }
         ensures err { OnErr result (self.new ≡ self.old) }
     {
-        if let Some(why) = self.release_refusal(segment, node) {
+        if let Some(why) = self.refuse_release(segment, node) {
             return Err(why);
         }
+        // Its contract says that the state is sound.
+        let _ = self.journal.len();
         make_ready(alloc, &mut self.journal, &mut self.lagging)?;
         self.lagging.release(segment, node);
         self.journal
@@ -137,9 +141,11 @@ impl Shard {
         ensures cause { IfErr result (λ why. (why ≡ error.Memory) ⊎ (load_refusal (layout_of self.old.channel self.old.state.notes) segment from node ≡ Some why)) }
         ensures err { OnErr result (self.new ≡ self.old) }
     {
-        if let Some(why) = self.load_refusal(segment, from, node) {
+        if let Some(why) = self.refuse_load(segment, from, node) {
             return Err(why);
         }
+        // Its contract says that the state is sound.
+        let _ = self.journal.len();
         make_ready(alloc, &mut self.journal, &mut self.lagging)?;
         self.lagging.load(segment, node)?;
         self.journal.append(by, line, Kind::Load { segment, node });
@@ -147,19 +153,19 @@ impl Shard {
         Ok(())
     }
 
-    fn move_refusal(&self, segment: u64, from: Home) -> Option<MoveError>
+    fn refuse_move(&self, segment: u64, from: Home) -> Option<MoveError>
         ensures { result ≡ move_refusal (layout_of self.now.channel self.now.state.notes) segment from }
     {
         why_not_moved(segment, self.lagging.homes(segment), from)
     }
 
-    fn load_refusal(&self, segment: u64, from: Home, node: u32) -> Option<MoveError>
+    fn refuse_load(&self, segment: u64, from: Home, node: u32) -> Option<MoveError>
         ensures { result ≡ load_refusal (layout_of self.now.channel self.now.state.notes) segment from node }
     {
         why_not_loaded(segment, self.lagging.homes(segment), from, node)
     }
 
-    fn release_refusal(&self, segment: u64, node: u32) -> Option<MoveError>
+    fn refuse_release(&self, segment: u64, node: u32) -> Option<MoveError>
         ensures { result ≡ release_refusal (layout_of self.now.channel self.now.state.notes) segment node }
     {
         why_not_released(segment, self.lagging.homes(segment), node)
