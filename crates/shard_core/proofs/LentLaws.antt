@@ -1,5 +1,5 @@
 -- What pieces that are brought up say of a segment that a call names.
-use Rattle.std.proofs.Common.{◌≡◌, ℕ, Bool, true, false, not, List, [], ◌∷◌, map, length, Option, Some, None, refl, sym, ap, subst, ◌∙◌, append-nil}
+use Rattle.std.proofs.Common.{◌≡◌, ℕ, Bool, true, false, not, List, [], map, length, Some, None, refl, sym, ap, subst, ◌∙◌, append-nil}
 use Rattle.std.specs.Prelude.{is_some}
 use Rattle.std.specs.List.{list_any}
 use Rattle.std.specs.Option.{option_map}
@@ -7,11 +7,11 @@ use Rattle.std.proofs.lemmas.Bool.{and_parts}
 use Rattle.journal_model.specs.declared.notes.Home.{Home}
 use Rattle.journal_model.specs.declared.notes.Home.TheVariants.{Node}
 use Rattle.journal_model.specs.declared.notes.Note.{Note}
-use Rattle.journal_model.specs.Layouts.{Channel, Layout, is_home, layout_of}
+use Rattle.journal_model.specs.Layouts.{Channel, is_home, layout_of}
 use Rattle.journal_model.specs.Lawful as lawful
 use Rattle.journal_model.specs.Lawful.{is_there, homes_in}
 use Rattle.journal_model.specs.Refusals.{move_refusal, load_refusal, release_refusal}
-use Rattle.journal_model.specs.Views.{Shown, StandsFor, shown}
+use Rattle.journal_model.specs.Views.{shown}
 use Rattle.journal_model.proofs.RefusalLaws.{load_allowed, release_allowed}
 use Rattle.seg_sealed.specs.Parts.{SegmentPart, shown_rows}
 use Rattle.channel_pieces.specs.Pieces.{MarkedSegment, MarkedLayout, segment_in, is_at, is_elsewhere}

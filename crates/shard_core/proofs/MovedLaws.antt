@@ -1,5 +1,5 @@
 -- The shard after its homes changed, and the parts of moves that were begun.
-use Rattle.std.proofs.Common.{◌≡◌, ℕ, ◌+◌, ◌-◌, ◌^◌, ◌<◌, ◌≤◌, true, List, [], ◌∷◌, ◌++◌, map, length, drop, None, refl, sym, ap, ap₂, subst, ◌∙◌, arith, append_assoc}
+use Rattle.std.proofs.Common.{◌≡◌, ℕ, ◌+◌, ◌-◌, ◌^◌, ◌<◌, ◌≤◌, true, List, [], ◌∷◌, ◌++◌, map, length, drop, sym, ap, ap₂, subst, ◌∙◌, arith, append_assoc}
 use Rattle.std.specs.List.{AllByRecursion}
 use Rattle.std.proofs.lemmas.List.{length_push}
 use Rattle.std.proofs.Math.Seq.{drop-append_seam}
@@ -8,22 +8,23 @@ use Rattle.coarse_lists.specs.declared.collections.Collection.{Collection}
 use Rattle.journal_model.specs.declared.notes.Note.{Note}
 use Rattle.journal_model.specs.declared.notes.Home.{Home}
 use Rattle.journal_model.specs.declared.notes.Kind.TheVariants.{Load, Release}
-use Rattle.journal_model.specs.Layouts.{Channel, Segment, homes_after_load, homes_after_release, layout_of}
+use Rattle.journal_model.specs.Layouts.{Channel, homes_after_load, homes_after_release, layout_of}
 use Rattle.journal_model.specs.Lists.{IsIn}
-use Rattle.journal_model.specs.Refusals.{move_refusal}
 use Rattle.journal_model.specs.Runs.{State, IsSound, is_step}
-use Rattle.journal_model.specs.Views.{Shown, StandsFor, advanced}
+use Rattle.journal_model.specs.Views.{StandsFor, advanced}
 use Rattle.journal_model.proofs.RunLaws.{append_sound}
 use Rattle.journal_model.proofs.PartLaws.{moved_stands}
 use Rattle.seg_sealed.specs.Parts.{SegmentPart, shown_rows}
 use Rattle.channel_journal.specs.Notes.{ChannelJournal, Appends, with_note}
 use Rattle.channel_pieces.specs.Pieces.{MarkedLayout, with_homes}
-use Rattle.shard_core.specs.Shelves.{Shelves, shelves_in_pieces}
+use Rattle.shard_core.specs.Shelves.{shelves_in_pieces, shelves_of}
 use Rattle.shard_core.specs.Lagging.{IsBehind}
 use Rattle.shard_core.specs.Kept.{LaggingPieces, HasShape, IsShapedAs, IsChannel, IsPutIn, IsBehindOf, HasRoom, KeepsShard, kinds_in}
 use Rattle.shard_core.specs.Moves.{BegunMove, IsMoveOf, IsLike, StandsAt, Commits}
 use Rattle.shard_core.specs.Shards.{ChannelShard}
-use Rattle.shard_core.proofs.MoveLaws.{loaded, released}
+use Rattle.shard_core.specs.Found.{found_in, found_with}
+use Rattle.shard_core.proofs.MoveLaws.{shows_all, loaded, released}
+use Rattle.shard_core.proofs.PlaceLaws.{found_caught}
 
 -- ---- pieces that were brought up
 
@@ -44,6 +45,17 @@ kept_ready collection j k l m s st ch h behind = record {
   shape = shaped collection.dim collection.nodes collection l.pieces m.pieces s.shape h;
   behind = behind;
 }
+
+-- the homes that are found are those of the journal
+pub found_kept : (collection : Collection) (j : ChannelJournal) (l : LaggingPieces) (segment : ℕ) → KeepsShard collection j l → found_with l.pieces.segments l.pending segment ≡ found_in (layout_of j.channel j.state.notes) segment
+found_kept collection j l segment s = found_caught j.channel j.state.notes l.pending l.deaths (shelves_in_pieces l.pieces) segment s.behind.is
+
+-- pieces that are brought up show the journal
+pub up_shows : (j : ChannelJournal) (l : LaggingPieces) → IsBehindOf j l → (l.pending ≡ []) × (l.deaths ≡ []) → shelves_in_pieces l.pieces ≡ shelves_of j.channel j.state.notes
+up_shows j l behind up =
+    shows_all j.channel j.state.notes (shelves_in_pieces l.pieces)
+    (subst (λ ds. IsBehind j.channel j.state.notes [] ds (shelves_in_pieces l.pieces)) up.1
+    (subst (λ ps. IsBehind j.channel j.state.notes ps l.deaths (shelves_in_pieces l.pieces)) up.0 behind))
 
 -- ---- a note that changes homes
 
@@ -87,9 +99,9 @@ room_ready spare room now j k h st s r =
     let pending : spare ≤ room = h.for_pending in
     record { few = omega arith; for_notes = omega arith; for_pending = omega arith }
 
-pub room_committed : (spare room now : ℕ) (j k : ChannelJournal) (note : Note) → HasRoom spare (length j.state.notes) j.spare room → length j.state.notes + 1 < 2 ^ 56 → Appends j k note → now ≡ room
-    → HasRoom (spare - 1) (length k.state.notes) k.spare now
-room_committed spare room now j k note h under a r =
+pub room_committed : (spare left room now : ℕ) (j k : ChannelJournal) (note : Note) → left ≡ spare - 1 → HasRoom spare (length j.state.notes) j.spare room → length j.state.notes + 1 < 2 ^ 56 → Appends j k note → now ≡ room
+    → HasRoom left (length k.state.notes) k.spare now
+room_committed spare left room now j k note one h under a r =
     let more : length k.state.notes ≡ length (j.state.notes ++ note ∷ []) = ap (λ (st : State). length st.notes) a.state in
     let push : length (j.state.notes ++ note ∷ []) ≡ length j.state.notes + 1 = length_push j.state.notes note in
     let few : spare + length j.state.notes < 2 ^ 56 = h.few in
@@ -98,15 +110,15 @@ room_committed spare room now j k note h under a r =
     let less : j.spare ≡ k.spare + 1 = a.spare in
     record { few = omega arith; for_notes = omega arith; for_pending = omega arith }
 
-pub committed : (old : ChannelShard) (collection : Collection) (spare : ℕ) (i j k : ChannelJournal) (note : Note) → record { collection = collection; channel = i.channel; state = i.state; spare = spare } ≡ old
-    → j.state ≡ i.state → j.channel ≡ i.channel → Appends j k note → is_step old.channel old.state note ≡ true
-    → Commits old (record { collection = collection; channel = k.channel; state = k.state; spare = spare - 1 }) note
-committed old collection spare i j k note is st ch a ok = record {
+pub committed : (old : ChannelShard) (collection : Collection) (spare left : ℕ) (i j k : ChannelJournal) (note : Note) → record { collection = collection; channel = i.channel; state = i.state; spare = spare } ≡ old
+    → j.state ≡ i.state → j.channel ≡ i.channel → Appends j k note → is_step old.channel old.state note ≡ true → left ≡ spare - 1
+    → Commits old (record { collection = collection; channel = k.channel; state = k.state; spare = left }) note
+committed old collection spare left i j k note is st ch a ok one = record {
   step = ok;
   state = a.state ∙ ap (λ s. with_note s note) (st ∙ ap (λ (s : ChannelShard). s.state) is);
   collection = ap (λ (s : ChannelShard). s.collection) is;
   channel = a.channel ∙ ch ∙ ap (λ (s : ChannelShard). s.channel) is;
-  spare = ap (λ (s : ChannelShard). s.spare - 1) is;
+  spare = one ∙ ap (λ (s : ChannelShard). s.spare - 1) is;
 }
 
 -- ---- moves that were begun

@@ -1,15 +1,15 @@
 -- Homes that are found, and what refuses calls by them.
-use Rattle.std.proofs.Common.{◌≡◌, ℕ, Bool, true, false, cond, not, ◌&&◌, ◌||◌, List, [], ◌∷◌, map, Option, Some, None, refl, sym, ap, ap₂, subst, ◌∙◌, inl, inr, eqb-true}
+use Rattle.std.proofs.Common.{◌≡◌, ℕ, Bool, true, false, cond, not, ◌||◌, List, [], ◌∷◌, map, Option, Some, None, refl, sym, ap, ap₂, ◌∙◌, inl, inr, eqb-true}
 use Rattle.std.specs.Prelude.{nat_eq}
 use Rattle.std.specs.List.{list_any}
 use Rattle.std.specs.Option.{option_map, option_or}
-use Rattle.std.proofs.lemmas.Bool.{false≢true, and_parts, not_from_true}
+use Rattle.std.proofs.lemmas.Bool.{false≢true}
 use Rattle.journal_model.specs.declared.notes.Home.{Home}
 use Rattle.journal_model.specs.declared.notes.Home.TheVariants.{Leader, Node}
 use Rattle.journal_model.specs.declared.notes.Note.{Note}
 use Rattle.journal_model.specs.declared.refusals.MoveError.{MoveError}
 use Rattle.journal_model.specs.declared.refusals.MoveError.TheVariants.{Gone, Already, LastPlace}
-use Rattle.journal_model.specs.Layouts.{Channel, Segment, Layout, is_home, layout_of}
+use Rattle.journal_model.specs.Layouts.{Channel, Segment, Layout, layout_of}
 use Rattle.journal_model.specs.Lawful.{homes_in, is_there, is_at, is_elsewhere}
 use Rattle.journal_model.specs.Lists.{IsIn}
 use Rattle.journal_model.specs.Refusals.{refused_if, not_at, move_refusal, load_refusal, release_refusal}

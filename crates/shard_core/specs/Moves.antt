@@ -1,6 +1,5 @@
 -- Moves of segments from one home to another: what a move that was begun tells, and what its commits do.
 use Rattle.std.specs.Prelude.{◌≡◌, ℕ, ◌-◌, true, List, ◌++◌, length, drop, map, None}
-use Rattle.coarse_lists.specs.declared.collections.Collection.{Collection}
 use Rattle.journal_model.specs.declared.notes.Home.{Home}
 use Rattle.journal_model.specs.declared.notes.Note.{Note}
 use Rattle.journal_model.specs.Layouts.{Channel, Segment, layout_of}

@@ -111,11 +111,11 @@ impl Shard {
         ensures cause { IfErr result (λ why. (why ≡ error.Memory) ⊎ (release_refusal (layout_of self.old.channel self.old.state.notes) segment node ≡ Some why)) }
         ensures err { OnErr result (self.new ≡ self.old) }
     {
+        // Its contract says that the state is sound.
+        let _notes = self.journal.len();
         if let Some(why) = self.refuse_release(segment, node) {
             return Err(why);
         }
-        // Its contract says that the state is sound.
-        let _ = self.journal.len();
         make_ready(alloc, &mut self.journal, &mut self.lagging)?;
         self.lagging.release(segment, node);
         self.journal
@@ -141,11 +141,11 @@ impl Shard {
         ensures cause { IfErr result (λ why. (why ≡ error.Memory) ⊎ (load_refusal (layout_of self.old.channel self.old.state.notes) segment from node ≡ Some why)) }
         ensures err { OnErr result (self.new ≡ self.old) }
     {
+        // Its contract says that the state is sound.
+        let _notes = self.journal.len();
         if let Some(why) = self.refuse_load(segment, from, node) {
             return Err(why);
         }
-        // Its contract says that the state is sound.
-        let _ = self.journal.len();
         make_ready(alloc, &mut self.journal, &mut self.lagging)?;
         self.lagging.load(segment, node)?;
         self.journal.append(by, line, Kind::Load { segment, node });
