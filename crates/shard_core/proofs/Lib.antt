@@ -10,3 +10,6 @@ pub mod ViewLaws
 pub mod TurnLaws
 pub mod KeyLaws
 pub mod CountLaws
+pub mod PlaceLaws
+pub mod MovedLaws
+pub mod LentLaws

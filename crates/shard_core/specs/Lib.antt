@@ -6,3 +6,6 @@ pub mod Told
 pub mod Kept
 pub mod Shards
 pub mod Counting
+pub mod Moves
+pub mod Found
+pub mod Least

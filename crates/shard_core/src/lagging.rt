@@ -1,14 +1,17 @@
 //! Pieces that lag behind their journal, and how they are brought up.
 
-ghost use Rattle.std.specs.Prelude.{◌≡◌, ◌+◌, ◌^◌, ◌<◌, ◌≤◌, ◌++◌, ◌∷◌, [], length, map, drop, Some, None, option_to_list, vec_len, vec_capacity, IfOk, OnOk, OnErr};
+ghost use Rattle.std.specs.Prelude.{◌≡◌, ◌+◌, ◌^◌, ◌<◌, ◌≤◌, ◌++◌, ◌∷◌, [], length, map, drop, true, false, Some, None, is_some, option_to_list, vec_len, vec_capacity, IfOk, OnOk, OnErr};
 ghost use Rattle.std.specs.Option.{option_map};
+ghost use Rattle.std.specs.List.{list_any};
+ghost use Rattle.journal_model.specs.Layouts.{homes_after_load, homes_after_release};
 ghost use Rattle.channel_journal.specs.Outcomes.{ended_row, sealed_number, segment_number};
 ghost use Rattle.seg_sealed.specs.Parts.{AreDeathsOf, shown_from, shown_rows};
 ghost use Rattle.journal_model.specs.declared.notes.Home.TheVariants.{Leader, Node};
-ghost use Rattle.channel_pieces.specs.Pieces.{no_pieces, placed_of, places_of, numbers_at};
+ghost use Rattle.channel_pieces.specs.Pieces.{no_pieces, placed_of, places_of, numbers_at, segment_in, with_homes, is_at, is_elsewhere};
 ghost use Rattle.channel_pieces.specs.Counting.{rows_of, counted, IsLeast};
 ghost use Rattle.shard_core.specs.Shelves.{shelves_in_pieces};
-ghost use Rattle.shard_core.specs.Steps.{after_pending, after_all, pending_end};
+ghost use Rattle.shard_core.specs.Steps.{after_pending, after_all, pending_end, is_closing};
+ghost use Rattle.shard_core.specs.Found.{found_with};
 ghost use Rattle.shard_core.specs.Told.{pending_told, deaths_told};
 ghost use Rattle.shard_core.specs.Kept.{IsShapedAs, IsSource, IsBehindOf, Pends, IsNext};
 
@@ -17,7 +20,7 @@ use channel_journal::{Journal, PutOutcome, RemoveOutcome};
 use channel_pieces::{PieceCounts, Pieces};
 use growing_segment::SharedTail;
 use hybrid_time::Timestamp;
-use journal_model::Kind;
+use journal_model::{Home, Kind};
 use row_types::Memory;
 use seg_sealed::{Marks, Part};
 use std::alloc::Global;
@@ -183,6 +186,76 @@ impl Lagging {
         ensures same { self.new ≡ self.old }
     {
         self.pieces.parts(alloc)
+    }
+
+    /// Where a segment stands once the pieces are brought up; `None` exactly where it is not there.
+    pub(crate) fn homes(&self, number: u64) -> Option<&[Home]>
+        ensures { option_map (λ homes. homes.now) result ≡ found_with self.now.pieces.segments self.now.pending number }
+    {
+        if let Some(homes) = self.pieces.homes(number) {
+            return Some(homes);
+        }
+        if closes(self.pending.as_slice(), number) {
+            return Some(&[Home::Leader]);
+        }
+        None
+    }
+
+    /// A part of a segment that the pieces have, which says that deaths are marked up to a position.
+    pub(crate) fn part(&mut self, alloc: Global, number: u64, applied: u64) -> Result<Part, Memory>
+        requires there { is_some (segment_in self.old.pieces.segments number) ≡ true }
+        ensures rows { IfOk result (λ part. Some (shown_rows part) ≡ option_map (λ s. s.rows) (segment_in self.old.pieces.segments number)) }
+        ensures number { IfOk result (λ part. part.sealed.number ≡ number) }
+        ensures applied { IfOk result (λ part. part.applied ≡ applied) }
+        ensures same { self.new ≡ self.old }
+    {
+        match self.pieces.part(alloc, number, applied)? {
+            Some(part) => Ok(part),
+            None => unreachable!(),
+        }
+    }
+
+    /// Adds a node to the homes of a segment that the pieces have. Want of memory leaves the homes as
+    /// they were.
+    pub(crate) fn load(&mut self, number: u64, node: u32) -> Result<(), Memory>
+        requires node { node < self.old.pieces.nodes }
+        requires elsewhere { option_map (is_at (Node node)) (segment_in self.old.pieces.segments number) ≡ Some false }
+        ensures ok { OnOk result (self.new.pieces ≡ with_homes number (homes_after_load node) self.old.pieces) }
+        ensures err { OnErr result (self.new.pieces ≡ self.old.pieces) }
+        ensures pending { self.new.pending ≡ self.old.pending }
+        ensures deaths { self.new.deaths ≡ self.old.deaths }
+        ensures room { self.new.room ≡ self.old.room }
+    {
+        self.pieces.load(number, node)
+    }
+
+    /// Takes a node from the homes of a segment that the pieces have, on this node and elsewhere.
+    pub(crate) fn release(&mut self, number: u64, node: u32)
+        requires node { node < self.old.pieces.nodes }
+        requires there { option_map (is_at (Node node)) (segment_in self.old.pieces.segments number) ≡ Some true }
+        requires more { option_map (is_elsewhere (Node node)) (segment_in self.old.pieces.segments number) ≡ Some true }
+        ensures pieces { self.new.pieces ≡ with_homes number (homes_after_release node) self.old.pieces }
+        ensures pending { self.new.pending ≡ self.old.pending }
+        ensures deaths { self.new.deaths ≡ self.old.deaths }
+        ensures room { self.new.room ≡ self.old.room }
+    {
+        self.pieces.release(number, node);
+    }
+}
+
+/// Whether the tail is to become the segment of a number.
+fn closes(pending: &[Pending], number: u64) -> bool
+    ensures { result ≡ list_any (is_closing number) pending.now }
+{
+    pending.iter().any(|next| is_boundary(*next, number))
+}
+
+fn is_boundary(next: Pending, number: u64) -> bool
+    ensures { result ≡ is_closing number next }
+{
+    match next {
+        Pending::Row { .. } => false,
+        Pending::Closed { number: other } => other == number,
     }
 }
 
