@@ -153,6 +153,8 @@ fn sort_hits(hits: &mut Vec<Hit>)
 }
 
 // The order of hits. Where both are numbers of bits no product is needed, and the key decides a tie.
+// It is part of the sort's loops, where a call would cost more than the comparison.
+#[inline(always)]
 fn in_turn(a: &Hit, b: &Hit) -> Ordering
     ensures { result ≡ hit_cmp a.now b.now }
 {
