@@ -1,9 +1,10 @@
 -- Rows that are offered one after another.
-use Rattle.std.proofs.Common.{◌≡◌, ℕ, ◌+◌, Bool, true, false, List, [], ◌∷◌, ◌++◌, length, take, slice_get, Option, Some, None, IfSome, refl, sym, ap, subst, ◌∙◌, add-one, arith}
+use Rattle.std.proofs.Common.{◌≡◌, ℕ, zero, suc, ◌+◌, ◌<◌, ◌≤◌, nat_lt, get_or, Bool, true, false, List, [], ◌∷◌, ◌++◌, length, take, slice_get, Option, Some, None, IfSome, refl, sym, ap, subst, ◌∙◌, add-one, arith}
 use Rattle.std.specs.Ordering.{is_lt, ordering_then}
 use Rattle.std.specs.declared.cmp.Ordering.{Ordering}
 use Rattle.std.specs.declared.cmp.Ordering.TheVariants.{Less, Equal, Greater}
-use Rattle.std.proofs.lemmas.Bool.{false≢true}
+use Rattle.std.proofs.lemmas.Bool.{false≢true, ltb-true, ltb-false}
+use Rattle.std.proofs.lemmas.Option.{slice_get-get_or}
 use Rattle.row_types.specs.declared.hits.Hit.{Hit}
 use Rattle.row_types.specs.declared.hits.Distance.{Distance}
 use Rattle.row_types.specs.Hits.{least, hit_cmp, value_cmp, distance_of}
@@ -13,12 +14,13 @@ use Rattle.log_model.specs.declared.queries.Plan.{Plan}
 use Rattle.log_model.specs.Scans.{hit_of, passes_filter}
 use Rattle.journal_model.specs.Views.{Shown, is_visible}
 use Rattle.log_model.specs.Places.{Placed}
-use Rattle.seg_sealed.specs.Parts.{shown_from}
+use Rattle.seg_sealed.specs.Parts.{shown_from, shown_as}
 use Rattle.view_laws.specs.Found.{hits_seen}
 use Rattle.view_laws.proofs.Seen as seen
 use Rattle.top_list.specs.Kept.{Kept, Offered, IsBehindAll, is_after}
 use Rattle.top_list.proofs.Fills.{Offered-none, Offered-more}
-use Rattle.flat_scan.specs.Bars.{is_past}
+use Rattle.flat_scan.specs.Bars.{is_past, AreAllPast}
+use Rattle.flat_scan.specs.Rows.{AreDistances, no_row}
 use Rattle.flat_scan.proofs.MarkedRows.{take_next, shown-append}
 
 pub own_offered : (old now : Kept) (xs : List Hit) → Offered old now xs → now.hits ≡ least now.k now.hits
@@ -92,3 +94,32 @@ module _ (ts : ℕ) (plan : Plan) (query : Query) where
       by_sight false passes v p found = offered_hidden s old false own (sym v) refl
       by_sight true false v p found = offered_refused s old false own (sym p) refl
       by_sight true true v p found = subst (Offered old old) (sym (seen.offered ts plan query s v p)) found
+
+  -- rows that are all too far change nothing
+  pub offered_past_all : (old now : Kept) (rows : List Shown) (count : ℕ) (far : ℕ → Distance) (bar : Option Hit) (from n to : ℕ) → from + n ≡ to → to ≤ length rows → now.hits ≡ least now.k now.hits → IfSome bar (IsBehindAll now)
+      → AreDistances plan query rows count far → AreAllPast far bar from to → Offered old now (hits_seen ts plan query (take from rows)) → Offered old now (hits_seen ts plan query (take to rows))
+  offered_past_all old now rows count far bar from zero to e within own behind apart past f =
+      let same : from ≡ to = omega arith in subst (λ t. Offered old now (hits_seen ts plan query (take t rows))) same f
+  offered_past_all old now rows count far bar from (suc n) to e within own behind apart past f =
+      let i = from + n in
+      let below : i < length rows = omega arith in
+      let one : i + 1 ≡ to = omega arith in
+      let s = get_or rows i (shown_as no_row None) in
+      let there : slice_get rows i ≡ Some s = slice_get-get_or rows i (shown_as no_row None) below in
+      let before = offered_past_all old now rows count far bar from n i refl (omega arith) own behind apart (λ j le lt. past j le (omega arith)) f in
+      let here = offered_past s now bar (far i) true own behind (apart.each i s there) (sym (past i (omega arith) (omega arith))) refl in
+      subst (λ t. Offered old now (hits_seen ts plan query (take t rows))) one (offered_next old now now rows i s there before here)
+
+pub past_none : (far : ℕ → Distance) (hit : Option Hit) (from : ℕ) → AreAllPast far hit from from
+past_none far hit from j le lt = absurd (omega arith)
+
+-- one row more is too far
+pub past_next : (far : ℕ → Distance) (hit : Option Hit) (from i : ℕ) (d : Distance) (past : Bool) → AreAllPast far hit from i → d ≡ far i → past ≡ is_past hit d → past ≡ true → AreAllPast far hit from (i + 1)
+past_next far hit from i d past all is that e j le lt = go (nat_lt j i) refl
+  where
+    go : (b : Bool) → nat_lt j i ≡ b → is_past hit (far j) ≡ true
+    go true f = all j le (ltb-true j i f)
+    go false f =
+        let least : i ≤ j = ltb-false j i f in
+        let same : i ≡ j = omega arith in
+        subst (λ n. is_past hit (far n) ≡ true) same (ap (is_past hit) (sym is) ∙ sym that ∙ e)

@@ -1,5 +1,5 @@
 -- When a row is too far to be kept; only proofs need it.
-use Rattle.std.specs.Prelude.{ℕ, ◌/◌, Bool, false, Option, Some, None}
+use Rattle.std.specs.Prelude.{◌≡◌, ℕ, ◌/◌, ◌<◌, ◌≤◌, Bool, true, false, Option, Some, None}
 use Rattle.std.specs.Ordering.{is_lt}
 use Rattle.row_types.specs.declared.hits.Distance.{Distance}
 use Rattle.row_types.specs.declared.hits.Hit.{Hit}
@@ -9,6 +9,17 @@ use Rattle.row_types.specs.Hits.{value_cmp, num_of, den_of}
 abbrev pub is_past : Option Hit → Distance → Bool
 is_past None distance = false
 is_past (Some last) distance = is_lt (value_cmp last.distance distance)
+
+-- the distances of the rows from a number up to another are all greater than that of a hit
+abbrev pub AreAllPast : (ℕ → Distance) → Option Hit → ℕ → ℕ → Type 0
+AreAllPast far hit from to = (j : ℕ) → from ≤ j → j < to → is_past hit (far j) ≡ true
+
+-- a row from a number up to another, with its distance, where all rows before it are past a hit
+pub record IsFirstNear (far : ℕ → Distance) (hit : Option Hit) (from to i : ℕ) (distance : Distance) : Type 0 where
+  pub start : from ≤ i
+  pub within : i < to
+  pub same : distance ≡ far i
+  pub before : AreAllPast far hit from i
 
 -- the greatest number of bits that is not past a hit; without one, the greatest number of 32 bits
 abbrev pub whole_of : Option Hit → ℕ

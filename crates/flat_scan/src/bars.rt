@@ -1,6 +1,6 @@
 //! How far a row may be that is still kept.
 
-ghost use Rattle.std.specs.Prelude.{◌≡◌};
+ghost use Rattle.std.specs.Prelude.{◌≡◌, ◌/◌};
 ghost use Rattle.row_types.specs.Hits.{num_of, den_of};
 ghost use Rattle.flat_scan.specs.Bars.{is_past, whole_of, num_in, den_in};
 
@@ -49,8 +49,18 @@ fn whole(hit: Option<Hit>) -> u32
     ensures { result ≡ whole_of hit }
 {
     match hit {
-        Some(last) => top(last.distance) / bottom(last.distance),
+        Some(last) => whole_part(last.distance),
         None => u32::MAX,
+    }
+}
+
+// A number of bits is whole as it stands, without a division.
+fn whole_part(distance: Distance) -> u32
+    ensures { result ≡ num_of distance / den_of distance }
+{
+    match distance {
+        Distance::Hamming(bits) => bits,
+        Distance::Jaccard { num, den } => num / den.max(1),
     }
 }
 

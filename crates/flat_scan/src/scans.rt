@@ -1,6 +1,6 @@
 //! The walk along rows that stand together.
 
-ghost use Rattle.std.specs.Prelude.{◌≡◌, ◌+◌, ◌<◌, ◌≤◌, ◌∷◌, [], length, map, Some, IfSome, slice_get};
+ghost use Rattle.std.specs.Prelude.{◌≡◌, ◌+◌, ◌<◌, ◌≤◌, ◌∷◌, [], length, map, Some, IfSome, MatchOption, slice_get};
 ghost use Rattle.std.specs.List.{AllByRecursion};
 ghost use Rattle.row_types.specs.Bits.{AreWordsOf};
 ghost use Rattle.row_types.specs.Hits.{least, distance_of};
@@ -8,6 +8,7 @@ ghost use Rattle.log_model.specs.Places.{IsColumn, width_of};
 ghost use Rattle.journal_model.specs.Views.{Shown};
 ghost use Rattle.top_list.specs.Kept.{Offered, IsBehindAll};
 ghost use Rattle.view_laws.specs.Found.{hits_seen};
+ghost use Rattle.flat_scan.specs.Bars.{AreAllPast, IsFirstNear};
 ghost use Rattle.flat_scan.specs.Rows.{AreDistances, HoldsVectors, HaveVectorsLike, vector_shown};
 
 use crate::bars::Bar;
@@ -17,7 +18,7 @@ use crate::rows::Rows;
 use bit_distance::Steps;
 use hybrid_time::Timestamp;
 use log_model::{Plan, Query};
-use row_types::{Hit, Metric};
+use row_types::{Distance, Hit, Metric};
 use std::sync::ledger::Ledger;
 use top_list::Gather;
 
@@ -47,6 +48,9 @@ pub(crate) fn offer_words<R: Rows, L: Ledger>(
         1 => offer_fixed::<R, L, 1>(rows, words, query, asked, gather, steps),
         2 => offer_fixed::<R, L, 2>(rows, words, query, asked, gather, steps),
         4 => offer_fixed::<R, L, 4>(rows, words, query, asked, gather, steps),
+        8 => offer_fixed::<R, L, 8>(rows, words, query, asked, gather, steps),
+        16 => offer_fixed::<R, L, 16>(rows, words, query, asked, gather, steps),
+        64 => offer_fixed::<R, L, 64>(rows, words, query, asked, gather, steps),
         _ => offer_wide(rows, words, query, asked, gather, steps),
     }
 }
@@ -131,46 +135,72 @@ pub(crate) fn offer_rows<R: Rows, D: Distances, L: Ledger>(
     ensures offered { Offered gather.old gather.new (hits_seen asked.now.ts.0 asked.now.plan.now asked.now.query.now (R.shown rows.now)) }
     ensures steps { steps.new ≡ steps.old + length (R.shown rows.now) }
 {
+    let count = rows.len();
     let mut bar = Bar::of(gather.bar());
-    'rows: for i in 0..rows.len() {
-        bar = offer_row(rows, far, i, asked, bar, gather, steps);
+    let mut from = 0;
+    'rows: while let Some(near) = next_near(far, from, count, &bar, steps) {
+        from = near.i + 1;
+        bar = offer_near(rows, near, asked, bar, gather);
     }
 }
 
-// Offers a row, if it is visible and passes, and gives a bar of the list: a hit behind which nothing
-// is kept. The row's fields are looked at only where it is near enough.
-fn offer_row<R: Rows, D: Distances, L: Ledger>(
-    rows: &R,
-    far: &D,
+// A row that may be near enough.
+#[derive(Drop)]
+struct Near {
     i: u32,
-    asked: &Asked,
-    bar: Bar,
-    gather: &mut Gather,
+    distance: Distance,
+}
+
+// The first row from a number on that is not too far, at a step for each row that is looked at. A
+// function of its own, and never part of another, so that nothing but the distance and the bar is in
+// the loop.
+#[inline(never)]
+fn next_near<D: Distances, L: Ledger>(
+    far: &D,
+    from: u32,
+    to: u32,
+    bar: &Bar,
     steps: &mut Steps<L>,
-) -> Bar
+) -> Option<Near>
+    requires order { from ≤ to }
+    requires there { to ≤ D.count far.now }
+    ensures near { MatchOption result (AreAllPast (D.far far.now) bar.now.hit from to)
+        (λ near. IsFirstNear (D.far far.now) bar.now.hit from to near.i near.distance) }
+    ensures steps { MatchOption result (steps.new + from ≡ steps.old + to) (λ near. steps.new + from ≡ steps.old + near.i + 1) }
+{
+    'rows: for i in from..to {
+        steps.tick();
+        let distance = far.distance(i);
+        if !bar.is_before(distance) {
+            return Some(Near { i, distance });
+        }
+    }
+    None
+}
+
+// Offers a row that is near enough, if it is visible and passes, and gives a bar of the list: a hit
+// behind which nothing is kept.
+#[inline(never)]
+fn offer_near<R: Rows>(rows: &R, near: Near, asked: &Asked, bar: Bar, gather: &mut Gather) -> Bar
     ghost s: { Shown }
-    requires row { slice_get (R.shown rows.now) i ≡ Some s }
-    requires below { i < length (R.shown rows.now) }
-    requires there { i < D.count far.now }
-    requires far { D.far far.now i ≡ distance_of asked.now.plan.now.metric asked.now.query.now.vector s.row.vector }
+    requires row { slice_get (R.shown rows.now) near.i ≡ Some s }
+    requires below { near.i < length (R.shown rows.now) }
+    requires far { near.distance ≡ distance_of asked.now.plan.now.metric asked.now.query.now.vector s.row.vector }
     requires own { gather.old.hits ≡ least gather.old.k gather.old.hits }
     requires bar { IfSome bar.hit (IsBehindAll gather.old) }
     ensures offered { Offered gather.old gather.new (hits_seen asked.now.ts.0 asked.now.plan.now asked.now.query.now (s ∷ [])) }
     ensures bar { IfSome result.hit (IsBehindAll gather.new) }
-    ensures steps { steps.new ≡ steps.old + 1 }
 {
-    steps.tick();
-    let distance = far.distance(i);
-    if bar.is_before(distance) {
+    if !rows.is_visible(near.i, asked.ts) {
         return bar;
     }
-    if !rows.is_visible(i, asked.ts) {
+    if !rows.passes(near.i, asked.query) {
         return bar;
     }
-    if !rows.passes(i, asked.query) {
-        return bar;
-    }
-    let key = rows.key(i);
-    gather.offer(Hit { distance, key });
+    let key = rows.key(near.i);
+    gather.offer(Hit {
+        distance: near.distance,
+        key,
+    });
     Bar::of(gather.bar())
 }

@@ -3,11 +3,13 @@
 ghost use Rattle.std.specs.Prelude.{◌≡◌, ℕ, ℤ, ◌+◌, ◌<◌, ◌≤◌, ◌^◌, ◌∷◌, ◌++◌, [], length, vec_len, vec_capacity, IfSome, MatchOption};
 ghost use Rattle.std.specs.declared.cmp.Ordering.TheVariants.{Less};
 ghost use Rattle.row_types.specs.declared.hits.Distance.TheVariants.{Hamming};
-ghost use Rattle.row_types.specs.Hits.{least, value_cmp};
+ghost use Rattle.std.specs.List.Sorted.{IsPermutation, IsSorted};
+ghost use Rattle.row_types.specs.Hits.{hit_cmp, least, value_cmp};
 ghost use Rattle.top_list.specs.Kept.{IsBehindAll, IsLast, is_after};
 
 use crate::tops::TopList;
 use row_types::{Distance, Hit};
+use std::cmp::Ordering;
 use std::marker::Model;
 
 /// A top list while it is filled: the hits that it would hold if it were settled now. Contracts see
@@ -130,10 +132,39 @@ pub(crate) fn cut(hits: &mut Vec<Hit>, k: u32) -> Option<Hit>
     ensures capacity { vec_capacity hits.new ≡ vec_capacity hits.old }
     ensures last { MatchOption result (vec_len hits.new < k) (IsLast k hits.new.items) }
 {
-    hits.sort_unstable();
+    sort_hits(hits);
     hits.dedup();
     hits.truncate(k as usize);
     last_of(hits, k)
+}
+
+// Puts the hits in rising order.
+fn sort_hits(hits: &mut Vec<Hit>)
+    ensures permutation { IsPermutation hits.old.items hits.new.items }
+    ensures sorted { IsSorted hit_cmp hits.new.items }
+    ensures len { vec_len hits.new ≡ vec_len hits.old }
+    ensures capacity { vec_capacity hits.new ≡ vec_capacity hits.old }
+{
+    hits.sort_unstable_by(
+        |a: &Hit, b: &Hit| -> Ordering
+            ensures { result ≡ hit_cmp a.now b.now }
+        { in_turn(a, b) },
+    );
+}
+
+// The order of hits. Where both are numbers of bits no product is needed, and the key decides a tie.
+// It is part of the sort's loops, where a call would cost more than the comparison.
+#[inline(always)]
+fn in_turn(a: &Hit, b: &Hit) -> Ordering
+    ensures { result ≡ hit_cmp a.now b.now }
+{
+    match a.distance {
+        Distance::Hamming(here) => match b.distance {
+            Distance::Hamming(there) => here.cmp(&there).then(a.key.cmp(&b.key)),
+            Distance::Jaccard { .. } => a.cmp(b),
+        },
+        Distance::Jaccard { .. } => a.cmp(b),
+    }
 }
 
 // The last of k hits that rise, and none where there are fewer.
@@ -153,7 +184,7 @@ pub(crate) fn is_behind(last: Option<Hit>, hit: &Hit) -> bool
     ensures { result ≡ is_after last hit.now }
 {
     match last {
-        Some(last) => last.before(hit),
+        Some(last) => in_turn(&last, hit).is_lt(),
         None => false,
     }
 }

@@ -34,13 +34,13 @@ impl Model for TopList {
 impl TopList {
     /// A list with no hits, which is to keep the `k` least.
     ///
-    /// It takes all the memory that it ever takes: 24 bytes for each of k + max(k, 64) hits.
+    /// It takes all the memory that it ever takes: 24 bytes for each of k + max(k, 16) hits.
     pub fn new(alloc: Global, k: u32) -> Result<TopList, Memory>
         requires some { 1 ≤ k }
         requires bound { k ≤ 16384 }
         ensures { IfOk result (λ list. list ≡ record { k = k; hits = [] }) }
     {
-        let room = k as usize + (k as usize).max(64);
+        let room = k as usize + (k as usize).max(16);
         let hits = Window::new(Vec::with_capacity(alloc, room)?);
         Ok(TopList { k, hits })
     }

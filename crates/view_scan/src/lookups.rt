@@ -38,11 +38,25 @@ pub fn find(alloc: Global, view: &View, ts: Timestamp, key: Key) -> Result<Optio
 fn find_shown(alloc: Global, view: &View, ts: Timestamp, key: Key) -> Result<Option<Row>, Memory>
     ensures { IfOk result (λ found. IsRowSeen ts.0 key.0 (joined (view_in view.now).parts) found) }
 {
-    if let Some(row) = find_in_tail(alloc, view.tail(), view.tail_marks(), ts, key)? {
+    if let Some(row) = find_growing(alloc, view, ts, key)? {
         return Ok(Some(row));
     }
-    let found = find_in_parts(alloc, view.parts(), ts, key)?;
+    let found = find_sealed(alloc, view, ts, key)?;
     Ok(found)
+}
+
+// The row of a key in the tail of a view.
+fn find_growing(alloc: Global, view: &View, ts: Timestamp, key: Key) -> Result<Option<Row>, Memory>
+    ensures { IfOk result (λ found. IsRowSeen ts.0 key.0 (shown_from view.now.deaths 0 view.now.tail.rows) found) }
+{
+    find_in_tail(alloc, view.tail(), view.tail_marks(), ts, key)
+}
+
+// The row of a key in the parts of a view.
+fn find_sealed(alloc: Global, view: &View, ts: Timestamp, key: Key) -> Result<Option<Row>, Memory>
+    ensures { IfOk result (λ found. IsRowSeen ts.0 key.0 (joined (map shown_rows view.now.parts)) found) }
+{
+    find_in_parts(alloc, view.parts(), ts, key)
 }
 
 // The row of a key in a tail.
@@ -91,7 +105,15 @@ fn find_in_part(alloc: Global, part: &Part, ts: Timestamp, key: Key) -> Result<O
     ensures { IfOk result (λ found. IsRowSeen ts.0 key.0 (shown_rows part.now) found) }
 {
     match flat_scan::find(part, ts, key) {
-        Some(i) => Ok(Some(part.sealed().row(alloc, i)?)),
+        Some(i) => Ok(Some(row_of(alloc, part, i)?)),
         None => Ok(None),
     }
+}
+
+// The row of a number of a part, copied.
+fn row_of(alloc: Global, part: &Part, i: u32) -> Result<Row, Memory>
+    requires { i < length part.now.sealed.rows }
+    ensures { IfOk result (λ row. option_map (λ x. x.row) (slice_get part.now.sealed.rows i) ≡ Some row) }
+{
+    part.sealed().row(alloc, i)
 }

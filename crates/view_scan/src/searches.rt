@@ -8,7 +8,7 @@ ghost use Rattle.journal_model.specs.Notes.{log_of};
 ghost use Rattle.journal_model.specs.Journals.{IsJournal};
 ghost use Rattle.journal_model.specs.Lists.{joined};
 ghost use Rattle.journal_model.specs.Views.{IsExact};
-ghost use Rattle.seg_sealed.specs.Parts.{shown_rows};
+ghost use Rattle.seg_sealed.specs.Parts.{shown_from, shown_rows};
 ghost use Rattle.top_list.specs.Kept.{Offered};
 ghost use Rattle.view_laws.specs.Found.{hits_seen, found_in};
 ghost use Rattle.channel_view.specs.Views.{view_in};
@@ -67,16 +67,42 @@ fn offer_all<L: Ledger>(
     ensures offered { Offered gather.old gather.new (hits_seen ts.0 plan.now query.now (joined (view_in view.now).parts)) }
     ensures steps { steps.new ≡ steps.old + length (joined (view_in view.now).parts) }
 {
+    offer_growing(view, ts, plan, query, gather, steps);
+    offer_sealed(view, ts, plan, query, gather, steps);
+}
+
+// Offers the rows of the tail.
+fn offer_growing<L: Ledger>(
+    view: &View,
+    ts: Timestamp,
+    plan: &Plan,
+    query: &Query,
+    gather: &mut Gather,
+    steps: &mut Steps<L>,
+)
+    requires { length query.now.vector ≡ view.now.collection.dim }
+    ensures offered { Offered gather.old gather.new (hits_seen ts.0 plan.now query.now (shown_from view.now.deaths 0 view.now.tail.rows)) }
+    ensures steps { steps.new ≡ steps.old + length view.now.tail.rows }
+{
     let _floor = view.floor();
-    scan_tail(
-        view.tail(),
-        view.tail_marks(),
-        ts,
-        plan,
-        query,
-        gather,
-        steps,
-    );
+    let (tail, marks) = (view.tail(), view.tail_marks());
+    scan_tail(tail, marks, ts, plan, query, gather, steps);
+}
+
+// Offers the rows of all parts.
+fn offer_sealed<L: Ledger>(
+    view: &View,
+    ts: Timestamp,
+    plan: &Plan,
+    query: &Query,
+    gather: &mut Gather,
+    steps: &mut Steps<L>,
+)
+    requires { length query.now.vector ≡ view.now.collection.dim }
+    ensures offered { Offered gather.old gather.new (hits_seen ts.0 plan.now query.now (joined (map shown_rows view.now.parts))) }
+    ensures steps { steps.new ≡ steps.old + length (joined (map shown_rows view.now.parts)) }
+{
+    let _floor = view.floor();
     offer_parts(view.parts(), ts, plan, query, gather, steps);
 }
 

@@ -90,8 +90,9 @@ impl TailRows for Pair {
     }
 }
 
-/// Keys 1 and 2 are put at 1 and 2, and sealed. Key 2 dies at 5.
-fn part(rt: &impl Abort, alloc: Global) -> Result<Part, Memory>
+/// Keys 1 and 2 are put at 1 and 2, and sealed. One of them dies.
+fn part(rt: &impl Abort, alloc: Global, dead: u32, death: Timestamp) -> Result<Part, Memory>
+    requires { dead < 2 }
     ensures { IfOk result (λ p. AllByRecursion (λ x. (length x.row.vector ≡ 8) × (x.row.fields ≡ [])) p.sealed.rows) }
 {
     let first = row(rt, alloc, 1, 0x00)?;
@@ -103,7 +104,7 @@ fn part(rt: &impl Abort, alloc: Global) -> Result<Part, Memory>
     let sealed = Sealed::build(alloc, 0, &rows)?;
     let mut marks = Marks::new(alloc, 4)?;
     marks.reserve(alloc, 1)?;
-    marks.mark(1, Timestamp(5));
+    marks.mark(dead, death);
     Ok(Part::new(Arc::new(alloc, sealed)?, Arc::new(alloc, marks)?))
 }
 
@@ -120,12 +121,13 @@ fn tail(rt: &impl Abort, alloc: Global) -> Result<SharedTail, Memory>
 }
 
 /// The segment stands at two places.
-fn view(rt: &impl Abort, alloc: Global) -> Result<View, Memory>
+fn view(rt: &impl Abort, alloc: Global, dead: u32, death: Timestamp) -> Result<View, Memory>
+    requires { dead < 2 }
     ensures floor { IfOk result (λ v. v.floor ≡ 0) }
     ensures tick { IfOk result (λ v. v.tick ≡ 6) }
     ensures dim { IfOk result (λ v. v.collection.dim ≡ 8) }
 {
-    let here = part(rt, alloc)?;
+    let here = part(rt, alloc, dead, death)?;
     let there = here.share()?;
     Ok(View::new(
         collection(alloc)?,
@@ -138,19 +140,22 @@ fn view(rt: &impl Abort, alloc: Global) -> Result<View, Memory>
     ))
 }
 
-/// The two nearest to `00` at a timestamp.
+/// The two nearest to `00` at a timestamp, where a row of the segment is dead from another on.
 fn nearest<L: Ledger>(
     rt: &impl Abort,
     alloc: Global,
     ts: u64,
+    dead: u32,
+    death: u64,
     blank: Blank,
 ) -> Result<TopList, Memory>
     requires ts { ts ≤ 6 }
+    requires dead { dead < 2 }
     requires name { blank.name ≡ L.name }
     requires parts { blank.parts ≡ L.parts }
     requires open { 0 < L.parts }
 {
-    let view = view(rt, alloc)?;
+    let view = view(rt, alloc, dead, Timestamp(death))?;
     let query = Query {
         vector: vector(rt, alloc, 0x00)?,
         k: 2,
@@ -177,7 +182,21 @@ fn each_key_is_found_once_though_its_segment_stands_twice(rt: HostRuntime) -> Re
         (4, [hit(0, 1), hit(8, 2)].as_slice()),
         (5, [hit(0, 1), hit(1, 2)].as_slice()),
     ] {
-        let found = nearest::<Brand>(&rt, alloc, ts, Blank::new(1))?;
+        let found = nearest::<Brand>(&rt, alloc, ts, 1, 5, Blank::new(1))?;
+        assert_eq!(&rt; found.hits(), want);
+    }
+    Ok(())
+}
+
+#[test]
+fn a_marked_row_is_found_before_its_death_alone(rt: HostRuntime) -> Result<(), Memory> {
+    let alloc = rt.alloc();
+    for (ts, want) in [
+        (2, [hit(0, 1), hit(8, 2)].as_slice()),
+        (3, [hit(8, 2)].as_slice()),
+        (4, [hit(8, 2)].as_slice()),
+    ] {
+        let found = nearest::<Brand>(&rt, alloc, ts, 0, 3, Blank::new(1))?;
         assert_eq!(&rt; found.hits(), want);
     }
     Ok(())
@@ -186,8 +205,8 @@ fn each_key_is_found_once_though_its_segment_stands_twice(rt: HostRuntime) -> Re
 #[test]
 fn lists_of_two_searches_merge_to_each_key_once(rt: HostRuntime) -> Result<(), Memory> {
     let alloc = rt.alloc();
-    let one = nearest::<Brand>(&rt, alloc, 3, Blank::new(1))?;
-    let other = nearest::<Brand>(&rt, alloc, 3, Blank::new(1))?;
+    let one = nearest::<Brand>(&rt, alloc, 3, 1, 5, Blank::new(1))?;
+    let other = nearest::<Brand>(&rt, alloc, 3, 1, 5, Blank::new(1))?;
     let merged = TopList::merge(alloc, &[one, other], 2)?;
     assert_eq!(&rt; merged.hits(), [hit(0, 1), hit(8, 2)].as_slice());
     Ok(())
@@ -204,7 +223,7 @@ fn word(found: &Option<Row>) -> Option<u64> {
 #[test]
 fn the_row_of_a_key_is_the_one_that_is_live(rt: HostRuntime) -> Result<(), Memory> {
     let alloc = rt.alloc();
-    let view = view(&rt, alloc)?;
+    let view = view(&rt, alloc, 1, Timestamp(5))?;
     for (ts, key, want) in [
         (1, 2, None),
         (4, 2, Some(0xff)),
