@@ -181,7 +181,8 @@ pub(crate) fn parts_of(
     places: &Places,
 ) -> Result<Vec<Part>, Memory>
     ensures rows { IfOk result (λ parts. map shown_rows parts.items ≡ places_of (map (homed places.now.segments) pieces.old.items)) }
-    ensures shapes { IfOk result (λ parts. (dim : ℕ) (kinds : List Kind) → AllByRecursion (IsPiece dim kinds) pieces.old.items → AllByRecursion (HasShape dim kinds) parts.items) }
+    ensures shapes { IfOk result (λ parts. (dim : ℕ) (kinds : List Kind) → AllByRecursion (IsPiece dim kinds) pieces.old.items
+        → AllByRecursion (HasShape dim kinds) parts.items) }
     ensures same { pieces.new.items ≡ pieces.old.items }
 {
     let mut parts = Vec::with_capacity(alloc, pieces.len())?;
@@ -199,7 +200,8 @@ fn place_piece(
     parts: &mut Vec<Part>,
 ) -> Result<(), Memory>
     ensures rows { OnOk result (map shown_rows parts.new.items ≡ map shown_rows parts.old.items ++ map (λ home. piece.old.rows) (homed places.now.segments piece.old).homes) }
-    ensures shapes { OnOk result ((dim : ℕ) (kinds : List Kind) → IsPiece dim kinds piece.old → AllByRecursion (HasShape dim kinds) parts.old.items → AllByRecursion (HasShape dim kinds) parts.new.items) }
+    ensures shapes { OnOk result ((dim : ℕ) (kinds : List Kind) → IsPiece dim kinds piece.old
+        → AllByRecursion (HasShape dim kinds) parts.old.items → AllByRecursion (HasShape dim kinds) parts.new.items) }
     ensures same { piece.new ≡ piece.old }
 {
     match places.homes(piece.number()) {
@@ -216,7 +218,8 @@ fn place_all(
     parts: &mut Vec<Part>,
 ) -> Result<(), Memory>
     ensures rows { OnOk result (map shown_rows parts.new.items ≡ map shown_rows parts.old.items ++ map (λ home. piece.old.rows) homes.now) }
-    ensures shapes { OnOk result ((dim : ℕ) (kinds : List Kind) → IsPiece dim kinds piece.old → AllByRecursion (HasShape dim kinds) parts.old.items → AllByRecursion (HasShape dim kinds) parts.new.items) }
+    ensures shapes { OnOk result ((dim : ℕ) (kinds : List Kind) → IsPiece dim kinds piece.old
+        → AllByRecursion (HasShape dim kinds) parts.old.items → AllByRecursion (HasShape dim kinds) parts.new.items) }
     ensures same { piece.new ≡ piece.old }
 {
     'homes: for _ in homes {

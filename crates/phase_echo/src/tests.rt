@@ -46,7 +46,12 @@ fn answers_two_phases_one_after_the_other(rt: HostRuntime) -> Result<(), Fail> {
 
 #[test]
 fn a_write_fault_in_the_second_phase_leaves_the_first(rt: HostRuntime) -> Result<(), Fail> {
-    let run = run_over(rt, Vec::from_slice(rt.alloc(), b"c\na\nm\nb\nm\n")?, &[], &[3])?;
+    let run = run_over(
+        rt,
+        Vec::from_slice(rt.alloc(), b"c\na\nm\nb\nm\n")?,
+        &[],
+        &[3],
+    )?;
     assert!(rt; matches!(run.ended, Err(Stop::WriteFault)));
     assert_eq!(rt; run.phases, 2);
     assert_eq!(rt; run.sink.as_slice(), b"c\na\nm\n".as_slice());

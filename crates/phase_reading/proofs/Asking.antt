@@ -11,7 +11,11 @@ module _ (account : Account) (meets : Meets) where
   can_take [] [] output some room whole told = absurd (omega (arith, some))
   can_take [] (h ∷ phase) output some room whole told = absurd cc
   can_take (h ∷ done) phase output some room whole told = record {
-    header = h; done = done; waiting = phase; output = output; told = told;
+    header = h;
+    done = done;
+    waiting = phase;
+    output = output;
+    told = told;
     room = omega (arith, room, length-append (h ∷ done) phase);
     plain = plain_phase meets h done phase whole;
   }
@@ -20,7 +24,11 @@ module _ (account : Account) (meets : Meets) where
   can_end [] [] output some few whole told = absurd (omega (arith, some))
   can_end [] (h ∷ phase) output some few whole told = absurd cc
   can_end (h ∷ done) phase output some few whole told = record {
-    header = h; done = done; waiting = phase; output = output; told = told;
+    header = h;
+    done = done;
+    waiting = phase;
+    output = output;
+    told = told;
     few = omega (arith, few, length-append (h ∷ done) phase);
     plain = plain_phase meets h done phase whole;
   }
@@ -39,7 +47,12 @@ module _ (account : Account) (meets : Meets) where
     can_run (h ∷ done) phase output takes some room whole told =
         let t = takes h done phase output told in
         record {
-          header = h; done = done; phase = phase; meet = line; output = output; told = t.1;
+          header = h;
+          done = done;
+          phase = phase;
+          meet = line;
+          output = output;
+          told = t.1;
           few = omega (arith, room, length-append (h ∷ done) phase, length-append phase (line ∷ []));
           plain = plain_phase meets h done phase whole;
           meets_there = sym t.0;

@@ -61,7 +61,7 @@ module _ (stopped : Answers) (account : Account) (stands : (done waiting : List 
     torn : (text : List ℕ) → meets_behind meets (s.done ++ s.phase) last ≡ true → next ((s.done ++ s.phase) ++ last ∷ []) [] (s.output ++ text) → AppendsFront now later text → OfPhases stopped meets (ended_lines (all ++ 10 ∷ [])) (AppendsFront before later)
     torn text meet told a =
         some_more stopped account stands begins meets before now all last lines s later ((s.done ++ s.phase) ++ last ∷ []) [] (ended_lines (all ++ 10 ∷ [])) text
-          (ended_next begins meets before account now all last lines s ∙ sym (append-nil ((s.done ++ s.phase) ++ last ∷ []))) (whole-meet meets (s.done ++ s.phase) last meet) (next_stands _ _ _ told) a
+        (ended_next begins meets before account now all last lines s ∙ sym (append-nil ((s.done ++ s.phase) ++ last ∷ []))) (whole-meet meets (s.done ++ s.phase) last meet) (next_stands _ _ _ told) a
 
     -- ---- line 1
 

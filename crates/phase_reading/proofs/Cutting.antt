@@ -63,7 +63,9 @@ module _ (stopped : Answers) (account : Account) (stands : (done waiting : List 
   -- one byte more than an input may have
   pub over_bytes : (byte : ℕ) (rest : List ℕ) → length all ≡ MAX_INPUT → WritesLimited stopped begins meets (all ++ byte ∷ rest) before now
   over_bytes byte rest size = limited (all ++ byte ∷ rest) (record {
-    byte = byte; rest = rest; split = refl;
+    byte = byte;
+    rest = rest;
+    split = refl;
     within = within_now account begins meets before now all last lines s (omega (arith, size));
     past = λ more w. omega (arith, size, w.bytes, length-append all (byte ∷ more));
   })
@@ -77,7 +79,9 @@ module _ (stopped : Answers) (account : Account) (stands : (done waiting : List 
   -- one line more
   pub over_lines : (byte : ℕ) (rest : List ℕ) → lines ≡ MAX_LINES → length all ≤ MAX_INPUT → WritesLimited stopped begins meets (all ++ byte ∷ rest) before now
   over_lines byte rest full size = limited (all ++ byte ∷ rest) (record {
-    byte = byte; rest = rest; split = refl;
+    byte = byte;
+    rest = rest;
+    split = refl;
     within = within_now account begins meets before now all last lines s size;
     past = λ more w. omega (arith, full, s.count, w.lines.1, ap length (joined_more byte more full), length-append (s.done ++ s.phase) (lines_of (byte ∷ more)), some_line byte more);
   })
@@ -86,14 +90,16 @@ module _ (stopped : Answers) (account : Account) (stands : (done waiting : List 
   long_line : (byte : ℕ) (more : List ℕ) → length last ≡ MAX_LINE → (byte == 10) ≡ false → IsWithin (all ++ byte ∷ more) → ⊥
   long_line byte more full other w =
       let apart : all ++ byte ∷ more ≡ joined (s.done ++ s.phase) ++ ((last ++ byte ∷ []) ++ more) =
-        ap (λ l. l ++ byte ∷ more) s.split ∙ append_assoc (joined (s.done ++ s.phase)) last (byte ∷ more) ∙ ap (λ l. joined (s.done ++ s.phase) ++ l) (sym (append_assoc last (byte ∷ []) more)) in
+      ap (λ l. l ++ byte ∷ more) s.split ∙ append_assoc (joined (s.done ++ s.phase)) last (byte ∷ more) ∙ ap (λ l. joined (s.done ++ s.phase) ++ l) (sym (append_assoc last (byte ∷ []) more)) in
       let found : lines_of (all ++ byte ∷ more) ≡ (s.done ++ s.phase) ++ lines_of ((last ++ byte ∷ []) ++ more) = ap lines_of apart ∙ lines_of-joined (s.done ++ s.phase) ((last ++ byte ∷ []) ++ more) s.clean in
       let short : AllByRecursion IsShort (lines_of ((last ++ byte ∷ []) ++ more)) = each-behind IsShort (s.done ++ s.phase) (lines_of ((last ++ byte ∷ []) ++ more)) (subst (AllByRecursion IsShort) found w.lines.0) in
       omega (arith, full, first_is_short (lines_of ((last ++ byte ∷ []) ++ more)) short, long_first (last ++ byte ∷ []) more (open-append last (byte ∷ []) s.clean_last.0 (other, tt)), length-append last (byte ∷ []))
 
   over_full : (byte : ℕ) (rest : List ℕ) → length last ≡ MAX_LINE → (byte == 10) ≡ false → length all ≤ MAX_INPUT → WritesLimited stopped begins meets (all ++ byte ∷ rest) before now
   over_full byte rest full other size = limited (all ++ byte ∷ rest) (record {
-    byte = byte; rest = rest; split = refl;
+    byte = byte;
+    rest = rest;
+    split = refl;
     within = within_now account begins meets before now all last lines s size;
     past = λ more w. long_line byte more full other w;
   })
@@ -109,7 +115,7 @@ module _ (stopped : Answers) (account : Account) (stands : (done waiting : List 
       let g = grown begins meets before account now all last lines s c.0 parts.0 (omega (arith, c.4, s.clean_last.1)) (λ _. room) in
       let apart : (all ++ tail) ++ rest ≡ (all ++ c.0) ++ c.1 ∷ (c.2 ++ rest) = ap (λ l. (all ++ l) ++ rest) c.3 ∙ ap (λ l. l ++ rest) (sym (append_assoc all c.0 (c.1 ∷ c.2))) ∙ append_assoc (all ++ c.0) (c.1 ∷ c.2) rest in
       subst (λ (l : List ℕ). WritesLimited stopped begins meets l before now) (sym apart)
-        (over_full stopped account stands begins meets before now (all ++ c.0) (last ++ c.0) lines g c.1 (c.2 ++ rest) (omega (arith, c.4, s.clean_last.1, length-append last c.0)) parts.1.0 (omega (arith, shorter, size, length-append all c.0)))
+      (over_full stopped account stands begins meets before now (all ++ c.0) (last ++ c.0) lines g c.1 (c.2 ++ rest) (omega (arith, c.4, s.clean_last.1, length-append last c.0)) parts.1.0 (omega (arith, shorter, size, length-append all c.0)))
 
   -- ---- a step that failed
 
@@ -119,18 +125,24 @@ module _ (stopped : Answers) (account : Account) (stands : (done waiting : List 
   -- nothing more was written
   pub none_more : (later : Option (List ℕ)) (ls rest : List (List ℕ)) → ls ≡ (s.done ++ s.phase) ++ rest → Appends now later [] → OfPhases stopped meets ls (Appends before later)
   none_more later ls rest is a = record {
-    run = s.done; rest = s.phase ++ rest;
+    run = s.done;
+    rest = s.phase ++ rest;
     front = is ∙ append_assoc s.done s.phase rest;
     phases = ap (whole_lines meets) (sym s.whole) ∙ whole-again meets (s.done ++ s.phase) ∙ s.whole;
-    output = s.output; stands = stands s.done s.phase s.output s.told;
+    output = s.output;
+    stands = stands s.done s.phase s.output s.told;
     holds = unwritten later a;
   }
 
   -- a part of a text more was written
   pub some_more : (later : Option (List ℕ)) (run rest ls : List (List ℕ)) (text : List ℕ) → ls ≡ run ++ rest → whole_lines meets run ≡ run → stopped run (s.output ++ text) → AppendsFront now later text → OfPhases stopped meets ls (AppendsFront before later)
   some_more later run rest ls text is phases told a = record {
-    run = run; rest = rest; front = is; phases = phases;
-    output = s.output ++ text; stands = told;
+    run = run;
+    rest = rest;
+    front = is;
+    phases = phases;
+    output = s.output ++ text;
+    stands = told;
     holds = (length s.output + a.0, subst (λ (l : List ℕ). Appends before later l) (sym (take_front s.output text a.0)) (appended_more before now later s.output (take a.0 text) s.written a.1));
   }
 
@@ -138,7 +150,8 @@ limited_longer : (stopped : Answers) (begins : Begins) (meets : Meets) (xs ys : 
 limited_longer stopped begins meets xs ys before now w = record {
   part = w.part;
   cut = record { byte = w.cut.byte; rest = w.cut.rest ++ ys; split = ap (λ l. l ++ ys) w.cut.split ∙ append_assoc w.part (w.cut.byte ∷ w.cut.rest) ys; within = w.cut.within; past = w.cut.past };
-  begun = w.begun; writes = w.writes;
+  begun = w.begun;
+  writes = w.writes;
 }
 
 -- what ended the reading within some bytes ends it whatever comes behind them

@@ -120,7 +120,10 @@ whole_read (Some xs) (Some ys) bytes k e within = record { within = subst IsWith
 -- all that was taken is the front
 pub in_whole : (begins : Begins) (left rest : Option (List ℕ)) (bytes : List ℕ) → Consumes left rest bytes → IsWithin bytes → IsBegun begins (ended_lines bytes) → StopsInPiece begins left rest
 in_whole begins left rest bytes k within begun = record {
-  front = bytes; piece = [];
+  front = bytes;
+  piece = [];
   consumed = subst (λ (l : List ℕ). Consumes left rest l) (sym (append-nil bytes)) k;
-  within = within; begun = begun; small = omega arith;
+  within = within;
+  begun = begun;
+  small = omega arith;
 }

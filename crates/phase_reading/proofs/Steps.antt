@@ -17,23 +17,40 @@ some_join P (suc a) b p q h = p (omega arith)
 module _ (begins : Begins) (meets : Meets) (before : Option (List ℕ)) where
   pub at_start : (account : Account) → account [] [] [] → IsSoFar account begins meets before before [] [] 0
   at_start account told = record {
-    done = []; phase = []; output = [];
-    split = refl; count = refl;
-    clean = tt; clean_last = (tt, omega arith); few = omega arith; few_last = λ h. absurd (omega (arith, h));
-    whole = refl; begun = tt; told = told; silent = λ _. refl; written = none_appended before;
+    done = [];
+    phase = [];
+    output = [];
+    split = refl;
+    count = refl;
+    clean = tt;
+    clean_last = (tt, omega arith);
+    few = omega arith;
+    few_last = λ h. absurd (omega (arith, h));
+    whole = refl;
+    begun = tt;
+    told = told;
+    silent = λ _. refl;
+    written = none_appended before;
   }
 
   module _ (account : Account) (now : Option (List ℕ)) (all last : List ℕ) (lines : ℕ) (s : IsSoFar account begins meets before now all last lines) where
     -- the last line goes on
     pub grown : (tail : List ℕ) → IsOpen tail → length last + length tail ≤ MAX_LINE → (0 < length tail → lines < MAX_LINES) → IsSoFar account begins meets before now (all ++ tail) (last ++ tail) lines
     grown tail unended size room = record {
-      done = s.done; phase = s.phase; output = s.output;
+      done = s.done;
+      phase = s.phase;
+      output = s.output;
       split = ap (λ l. l ++ tail) s.split ∙ append_assoc (joined (s.done ++ s.phase)) last tail;
-      count = s.count; clean = s.clean;
+      count = s.count;
+      clean = s.clean;
       clean_last = (open-append last tail s.clean_last.0 unended, omega (arith, size, length-append last tail));
       few = s.few;
       few_last = λ h. some_join (lines < MAX_LINES) (length last) (length tail) s.few_last room (omega (arith, h, length-append last tail));
-      whole = s.whole; begun = s.begun; told = s.told; silent = s.silent; written = s.written;
+      whole = s.whole;
+      begun = s.begun;
+      told = s.told;
+      silent = s.silent;
+      written = s.written;
     }
 
     pub more_clean : AllByRecursion IsLine ((s.done ++ s.phase) ++ last ∷ [])
@@ -47,7 +64,9 @@ module _ (begins : Begins) (meets : Meets) (before : Option (List ℕ)) where
     lined next room other told =
         let moved : (s.done ++ s.phase) ++ last ∷ [] ≡ s.done ++ (s.phase ++ last ∷ []) = append_assoc s.done s.phase (last ∷ []) in
         record {
-          done = s.done; phase = s.phase ++ last ∷ []; output = s.output;
+          done = s.done;
+          phase = s.phase ++ last ∷ [];
+          output = s.output;
           split = line_split (s.done ++ s.phase) last all s.split ∙ ap (λ ls. joined ls ++ []) moved;
           count = more_count ∙ ap length moved;
           clean = subst (AllByRecursion IsLine) moved more_clean;
@@ -55,7 +74,10 @@ module _ (begins : Begins) (meets : Meets) (before : Option (List ℕ)) where
           few = omega (arith, room);
           few_last = λ h. absurd (omega (arith, h));
           whole = ap (whole_lines meets) (sym moved) ∙ whole-other meets (s.done ++ s.phase) last other ∙ s.whole;
-          begun = s.begun; told = told; silent = s.silent; written = s.written;
+          begun = s.begun;
+          told = told;
+          silent = s.silent;
+          written = s.written;
         }
 
     -- the last line ends, and a phase with it, which was run and written
@@ -64,7 +86,9 @@ module _ (begins : Begins) (meets : Meets) (before : Option (List ℕ)) where
     ran next later text room meet first told written =
         let same : ((s.done ++ s.phase) ++ last ∷ []) ++ [] ≡ (s.done ++ s.phase) ++ last ∷ [] = append-nil ((s.done ++ s.phase) ++ last ∷ []) in
         record {
-          done = (s.done ++ s.phase) ++ last ∷ []; phase = []; output = s.output ++ text;
+          done = (s.done ++ s.phase) ++ last ∷ [];
+          phase = [];
+          output = s.output ++ text;
           split = line_split (s.done ++ s.phase) last all s.split ∙ ap (λ ls. joined ls ++ []) (sym same);
           count = more_count ∙ ap length (sym same);
           clean = subst (AllByRecursion IsLine) (sym same) more_clean;

@@ -29,16 +29,18 @@ module _ (stopped : Answers) (account : Account) (stands : (done waiting : List 
   over : (tail rest : List ℕ) → IsOpen tail → 0 < length (tail ++ rest) → length all + length tail ≤ MAX_INPUT → (MAX_LINES ≤ lines) ⊎ ((lines < MAX_LINES) × (MAX_LINE < length last + length tail)) → WritesLimited stopped begins meets ((all ++ tail) ++ rest) before now
   over tail rest unended some size why = elim why [
     | inl full ↦
-      let b = some_bytes (tail ++ rest) some in
-      let apart : (all ++ tail) ++ rest ≡ all ++ b.0 ∷ b.1 = append_assoc all tail rest ∙ ap (λ l. all ++ l) b.2 in
-      subst (λ (l : List ℕ). WritesLimited stopped begins meets l before now) (sym apart) (over_lines stopped account stands begins meets before now all last lines s b.0 b.1 (omega (arith, full, s.few)) (omega (arith, size)))
+        let b = some_bytes (tail ++ rest) some in
+        let apart : (all ++ tail) ++ rest ≡ all ++ b.0 ∷ b.1 = append_assoc all tail rest ∙ ap (λ l. all ++ l) b.2 in
+        subst (λ (l : List ℕ). WritesLimited stopped begins meets l before now) (sym apart) (over_lines stopped account stands begins meets before now all last lines s b.0 b.1 (omega (arith, full, s.few)) (omega (arith, size)))
     | inr long ↦ over_long stopped account stands begins meets before now all last lines s tail rest unended long.0 long.1 size
   ]
 
   -- there was no memory for what came
   no_room : length all ≤ MAX_INPUT → (more : List ℕ) → Stops stopped begins meets Memory (all ++ more) before now
   no_room size more = inl (record {
-    part = all; rest = more; split = refl;
+    part = all;
+    rest = more;
+    split = refl;
     within = within_now account begins meets before now all last lines s size;
     holds = none_more stopped account stands begins meets before now all last lines s now (ended_lines all) [] (ended_now begins meets before account now all last lines s ∙ sym (append-nil (s.done ++ s.phase))) (none_appended now);
   })
@@ -95,10 +97,14 @@ module _ (stopped : Answers) (account : Account) (stands : (done waiting : List 
     pub not_finished : (stop : Stop) → Fails (AnswersEnd account whole) ⊥ stop now later → Ends stopped whole begins meets stop input before later
     not_finished BadHeader f = absurd f.0
     not_finished ReadFault f = absurd f
-    not_finished WriteFault f = inr (refl, record {
-      output = s.output ++ f.0; stands = end_told f.0 f.1;
-      holds = (length s.output + f.2.0, subst (λ (l : List ℕ). Appends before later l) (sym (take_front s.output f.0 f.2.0)) (appended_more before now later s.output (take f.2.0 f.0) s.written f.2.1));
-    })
+    not_finished WriteFault f = inr (
+      refl,
+      record {
+        output = s.output ++ f.0;
+        stands = end_told f.0 f.1;
+        holds = (length s.output + f.2.0, subst (λ (l : List ℕ). Appends before later l) (sym (take_front s.output f.0 f.2.0)) (appended_more before now later s.output (take f.2.0 f.0) s.written f.2.1));
+      },
+    )
     not_finished Limit f = absurd f
     not_finished Memory f = inl (none_more stopped account stands begins meets before now all last lines s later (all_lines input) [] (is ∙ ended_now begins meets before account now all last lines s ∙ sym (append-nil (s.done ++ s.phase))) f)
 

@@ -11,11 +11,7 @@ use crate::writing::write_all;
 use manu_edge::{Failed, Sink};
 
 // Line 1.
-pub fn begin_line<E: Engine, O: Sink>(
-    engine: &mut E,
-    sink: &mut O,
-    line: &[u8],
-) -> Result<(), Stop>
+pub fn begin_line<E: Engine, O: Sink>(engine: &mut E, sink: &mut O, line: &[u8]) -> Result<(), Stop>
     requires fresh { IsFresh (E.account engine.old) }
     ensures follows { E.follows engine.old engine.new }
     ensures later { O.faults sink.old ≤ O.faults sink.new }

@@ -17,7 +17,8 @@ pub fn cut_ended(bytes: &[u8]) -> Option<(&[u8], &[u8])>
 
 // The place of the first LF.
 fn find_lf(bytes: &[u8]) -> Option<usize>
-    ensures { MatchOption result (IsOpen bytes.now) (λ at. (at < length bytes.now) × IsOpen (take at bytes.now) × (bytes.now ≡ take at bytes.now ++ 10 ∷ drop (at + 1) bytes.now)) }
+    ensures { MatchOption result (IsOpen bytes.now) (λ at. (at < length bytes.now) × IsOpen (take at bytes.now)
+        × (bytes.now ≡ take at bytes.now ++ 10 ∷ drop (at + 1) bytes.now)) }
 {
     memchr(b'\n', bytes)
 }

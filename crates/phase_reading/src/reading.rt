@@ -43,7 +43,8 @@ impl Reading {
         sink: &mut O,
         piece: &[u8],
     ) -> Result<Reading, Stop>
-        requires known { (before : Option (List ℕ)) × (all : List ℕ) × IsSoFar (E.account engine.old) E.begins E.meets before (O.written sink.old) all self.last.items self.lines }
+        requires known { (before : Option (List ℕ)) × (all : List ℕ)
+            × IsSoFar (E.account engine.old) E.begins E.meets before (O.written sink.old) all self.last.items self.lines }
         ensures follows { E.follows engine.old engine.new }
         ensures later { O.faults sink.old ≤ O.faults sink.new }
         ensures rose { IfErr result (λ stop. stop ≡ Stop.WriteFault → Rose (O.faults sink.old) (O.faults sink.new)) }
@@ -81,7 +82,8 @@ impl Reading {
         taken: usize,
     ) -> Result<Reading, Stop>
         requires had { taken ≤ MAX_INPUT }
-        requires known { (before : Option (List ℕ)) × (all : List ℕ) × IsSoFar (E.account engine.old) E.begins E.meets before (O.written sink.old) all self.last.items self.lines }
+        requires known { (before : Option (List ℕ)) × (all : List ℕ)
+            × IsSoFar (E.account engine.old) E.begins E.meets before (O.written sink.old) all self.last.items self.lines }
         ensures follows { E.follows engine.old engine.new }
         ensures later { O.faults sink.old ≤ O.faults sink.new }
         ensures rose { IfErr result (λ stop. stop ≡ Stop.WriteFault → Rose (O.faults sink.old) (O.faults sink.new)) }
@@ -106,7 +108,8 @@ impl Reading {
 
     // The input has come to its end: its last lines are answered, and the end.
     pub fn finish<E: Engine, O: Sink>(self, engine: &mut E, sink: &mut O) -> Result<(), Stop>
-        requires known { (before : Option (List ℕ)) × (all : List ℕ) × IsSoFar (E.account engine.old) E.begins E.meets before (O.written sink.old) all self.last.items self.lines }
+        requires known { (before : Option (List ℕ)) × (all : List ℕ)
+            × IsSoFar (E.account engine.old) E.begins E.meets before (O.written sink.old) all self.last.items self.lines }
         ensures follows { E.follows engine.old engine.new }
         ensures later { O.faults sink.old ≤ O.faults sink.new }
         ensures rose { IfErr result (λ stop. stop ≡ Stop.WriteFault → Rose (O.faults sink.old) (O.faults sink.new)) }
@@ -126,7 +129,8 @@ impl Reading {
 
     // The last line ends with the input, if something stands in it or it is line 1.
     fn close_last<E: Engine, O: Sink>(self, engine: &mut E, sink: &mut O) -> Result<(), Stop>
-        requires known { (before : Option (List ℕ)) × (all : List ℕ) × IsSoFar (E.account engine.old) E.begins E.meets before (O.written sink.old) all self.last.items self.lines }
+        requires known { (before : Option (List ℕ)) × (all : List ℕ)
+            × IsSoFar (E.account engine.old) E.begins E.meets before (O.written sink.old) all self.last.items self.lines }
         ensures follows { E.follows engine.old engine.new }
         ensures later { O.faults sink.old ≤ O.faults sink.new }
         ensures rose { IfErr result (λ stop. stop ≡ Stop.WriteFault → Rose (O.faults sink.old) (O.faults sink.new)) }
@@ -151,7 +155,8 @@ impl Reading {
         tail: &[u8],
     ) -> Result<Reading, Stop>
         requires open { IsOpen tail.now }
-        requires known { (before : Option (List ℕ)) × (all : List ℕ) × IsSoFar (E.account engine.old) E.begins E.meets before (O.written sink.old) all self.last.items self.lines }
+        requires known { (before : Option (List ℕ)) × (all : List ℕ)
+            × IsSoFar (E.account engine.old) E.begins E.meets before (O.written sink.old) all self.last.items self.lines }
         ensures follows { E.follows engine.old engine.new }
         ensures later { O.faults sink.old ≤ O.faults sink.new }
         ensures rose { IfErr result (λ stop. stop ≡ Stop.WriteFault → Rose (O.faults sink.old) (O.faults sink.new)) }
@@ -181,7 +186,8 @@ impl Reading {
     ) -> Result<Reading, Stop>
         requires open { IsOpen line.now }
         requires none { self.last.items ≡ [] }
-        requires known { (before : Option (List ℕ)) × (all : List ℕ) × IsSoFar (E.account engine.old) E.begins E.meets before (O.written sink.old) all [] self.lines }
+        requires known { (before : Option (List ℕ)) × (all : List ℕ)
+            × IsSoFar (E.account engine.old) E.begins E.meets before (O.written sink.old) all [] self.lines }
         ensures follows { E.follows engine.old engine.new }
         ensures later { O.faults sink.old ≤ O.faults sink.new }
         ensures rose { IfErr result (λ stop. stop ≡ Stop.WriteFault → Rose (O.faults sink.old) (O.faults sink.new)) }
@@ -210,7 +216,8 @@ impl Reading {
     // The line that has not ended ends.
     fn close<E: Engine, O: Sink>(self, engine: &mut E, sink: &mut O) -> Result<Reading, Stop>
         requires room { self.lines < MAX_LINES }
-        requires known { (before : Option (List ℕ)) × (all : List ℕ) × IsSoFar (E.account engine.old) E.begins E.meets before (O.written sink.old) all self.last.items self.lines }
+        requires known { (before : Option (List ℕ)) × (all : List ℕ)
+            × IsSoFar (E.account engine.old) E.begins E.meets before (O.written sink.old) all self.last.items self.lines }
         ensures follows { E.follows engine.old engine.new }
         ensures later { O.faults sink.old ≤ O.faults sink.new }
         ensures rose { IfErr result (λ stop. stop ≡ Stop.WriteFault → Rose (O.faults sink.old) (O.faults sink.new)) }
@@ -271,7 +278,8 @@ fn answer_line<E: Engine, O: Sink>(
     lines: u32,
 ) -> Result<(), Stop>
     requires room { lines < MAX_LINES }
-    requires known { (before : Option (List ℕ)) × (all : List ℕ) × IsSoFar (E.account engine.old) E.begins E.meets before (O.written sink.old) all line.now lines }
+    requires known { (before : Option (List ℕ)) × (all : List ℕ)
+        × IsSoFar (E.account engine.old) E.begins E.meets before (O.written sink.old) all line.now lines }
     ensures follows { E.follows engine.old engine.new }
     ensures later { O.faults sink.old ≤ O.faults sink.new }
     ensures rose { IfErr result (λ stop. stop ≡ Stop.WriteFault → Rose (O.faults sink.old) (O.faults sink.new)) }

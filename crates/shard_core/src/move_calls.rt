@@ -108,7 +108,8 @@ impl Shard {
         ensures step { OnOk result (Commits self.old self.new (note_of by line (Release segment node))) }
         ensures free { OnOk result (release_refusal (layout_of self.old.channel self.old.state.notes) segment node ≡ None) }
         ensures refused { IfSome (release_refusal (layout_of self.old.channel self.old.state.notes) segment node) (λ why. result ≡ Err why) }
-        ensures cause { IfErr result (λ why. (why ≡ error.Memory) ⊎ (release_refusal (layout_of self.old.channel self.old.state.notes) segment node ≡ Some why)) }
+        ensures cause { IfErr result (λ why. (why ≡ error.Memory)
+            ⊎ (release_refusal (layout_of self.old.channel self.old.state.notes) segment node ≡ Some why)) }
         ensures err { OnErr result (self.new ≡ self.old) }
     {
         // Its contract says that the state is sound.
@@ -138,7 +139,8 @@ impl Shard {
         ensures step { OnOk result (Commits self.old self.new (note_of by line (Load segment node))) }
         ensures free { OnOk result (load_refusal (layout_of self.old.channel self.old.state.notes) segment from node ≡ None) }
         ensures refused { IfSome (load_refusal (layout_of self.old.channel self.old.state.notes) segment from node) (λ why. result ≡ Err why) }
-        ensures cause { IfErr result (λ why. (why ≡ error.Memory) ⊎ (load_refusal (layout_of self.old.channel self.old.state.notes) segment from node ≡ Some why)) }
+        ensures cause { IfErr result (λ why. (why ≡ error.Memory)
+            ⊎ (load_refusal (layout_of self.old.channel self.old.state.notes) segment from node ≡ Some why)) }
         ensures err { OnErr result (self.new ≡ self.old) }
     {
         // Its contract says that the state is sound.

@@ -55,7 +55,7 @@ pub returns-in-Err-finish-clause-stopped : goal.returns-in-Err-finish-clause-sto
 returns-in-Err-finish-clause-stopped g c =
     let i = c.pieces.invariant.known in
     end_outcome g.E.Engine.stopped g.E.Engine.whole g.E.Engine.begins g.E.Engine.meets c.in-Err-finish.stop _ (g.S.Source.left c.read_piece.new.source) _ _ i.0 (consumed_last _ _ _ i.0 _ c.in-Ok.count c.if-count-eq0.true i.1 c.in-Ok.ensures.bytes) (c.in-Ok.ensures.end c.if-count-eq0.true)
-      (within_now _ _ _ _ _ _ _ _ i.3 (omega (arith, i.2, c.pieces.invariant.few))) (c.in-Err-finish.ensures.ended (g.O.Sink.written c.args.sink.now) i.0 i.3)
+    (within_now _ _ _ _ _ _ _ _ i.3 (omega (arith, i.2, c.pieces.invariant.few))) (c.in-Err-finish.ensures.ended (g.O.Sink.written c.args.sink.now) i.0 i.3)
 
 pub returns-in-Err-finish-clause-read_fault : goal.returns-in-Err-finish-clause-read_fault
 returns-in-Err-finish-clause-read_fault g c e =
@@ -71,7 +71,7 @@ pub returns-in-Err-take_within-clause-stopped : goal.returns-in-Err-take_within-
 returns-in-Err-take_within-clause-stopped g c =
     let i = c.pieces.invariant.known in
     stop_outcome g.E.Engine.stopped g.E.Engine.whole g.E.Engine.begins g.E.Engine.meets c.in-Err-take_within.stop _ (g.S.Source.left c.read_piece.new.source) _ _ (i.0 ++ take c.in-Ok.count c.read_piece.new.buffer) (consumed_more _ _ _ _ _ i.1 c.in-Ok.ensures.bytes)
-      (c.in-Err-take_within.ensures.ended (g.O.Sink.written c.args.sink.now) i.0 i.2 i.3)
+    (c.in-Err-take_within.ensures.ended (g.O.Sink.written c.args.sink.now) i.0 i.2 i.3)
 
 pub returns-in-Err-take_within-clause-read_fault : goal.returns-in-Err-take_within-clause-read_fault
 returns-in-Err-take_within-clause-read_fault g c e =
@@ -83,7 +83,8 @@ returns-in-Err-take_within-clause-in_piece g c =
     let i = c.pieces.invariant.known in
     let size : length (take c.in-Ok.count c.read_piece.new.buffer) ≡ c.in-Ok.count = length-take-le c.in-Ok.count c.read_piece.new.buffer c.in-Ok.ensures.room.0 in
     record {
-      front = i.0; piece = take c.in-Ok.count c.read_piece.new.buffer;
+      front = i.0;
+      piece = take c.in-Ok.count c.read_piece.new.buffer;
       consumed = consumed_more _ _ _ _ _ i.1 c.in-Ok.ensures.bytes;
       within = within_now _ _ _ _ _ _ _ _ i.3 (omega (arith, i.2, c.pieces.invariant.few));
       begun = begun_now _ _ _ _ _ _ _ _ i.3;

@@ -7,7 +7,7 @@ use Rattle.phase_reading.proofs.serving.read_pieces.Given as goal
 abbrev pub invariant-pieces : goal.invariant-pieces
 invariant-pieces g l = record {
   known : (all : List ℕ) × Consumes (g.S.Source.left l.fn.source) (g.S.Source.left l.source) all × (length all ≡ l.taken)
-    × IsSoFar (g.E.Engine.account l.engine) g.E.Engine.begins g.E.Engine.meets (g.O.Sink.written l.fn.sink) (g.O.Sink.written l.sink) all l.reading.last.items l.reading.lines;
+      × IsSoFar (g.E.Engine.account l.engine) g.E.Engine.begins g.E.Engine.meets (g.O.Sink.written l.fn.sink) (g.O.Sink.written l.sink) all l.reading.last.items l.reading.lines;
   few : l.taken ≤ MAX_INPUT;
   some : 0 < length l.buffer;
   small : length l.buffer ≤ 262_144;

@@ -18,5 +18,5 @@ pub returns-clause-ended : goal.returns-clause-ended
 returns-clause-ended g c =
     let e = c.in-Ok.ensures in
     if_err _ _ c.close.result (λ stop ended before all size s.
-      let n = extended _ _ (g.E.Engine.stands c.args.engine.now) _ _ _ _ _ _ _ s c.args.tail.now c.in-Ok.longer.last.items c.in-Ok.longer.lines c.requires.open e.last e.lines e.size in
-      stops_here _ _ (g.E.Engine.stands c.args.engine.now) _ _ _ _ _ _ _ n stop _ (omega (arith, e.lines.0, e.lines.1)) (omega (arith, size, length-append all c.args.tail.now)) (ended before (all ++ c.args.tail.now) n)) c.close.ensures.ended
+    let n = extended _ _ (g.E.Engine.stands c.args.engine.now) _ _ _ _ _ _ _ s c.args.tail.now c.in-Ok.longer.last.items c.in-Ok.longer.lines c.requires.open e.last e.lines e.size in
+    stops_here _ _ (g.E.Engine.stands c.args.engine.now) _ _ _ _ _ _ _ n stop _ (omega (arith, e.lines.0, e.lines.1)) (omega (arith, size, length-append all c.args.tail.now)) (ended before (all ++ c.args.tail.now) n)) c.close.ensures.ended

@@ -15,11 +15,11 @@ pub returns-clause-done : goal.returns-clause-done
 returns-clause-done g c =
     let B : List (List ℕ) → Type 0 = IsBegun g.E.Engine.begins in
     on_ok _ _ c.end_input.result (λ w before all s.
-      let n = c.in-Ok.ensures.next before all s in
-      (subst B (sym n.2) (begun_now _ _ _ _ _ _ _ _ n.4), finished _ _ (g.E.Engine.stands c.close_last.new.engine) _ _ _ _ _ _ _ n.4 _ _ all n.2 w)) c.end_input.ensures.ok
+    let n = c.in-Ok.ensures.next before all s in
+    (subst B (sym n.2) (begun_now _ _ _ _ _ _ _ _ n.4), finished _ _ (g.E.Engine.stands c.close_last.new.engine) _ _ _ _ _ _ _ n.4 _ _ all n.2 w)) c.end_input.ensures.ok
 
 pub returns-clause-ended : goal.returns-clause-ended
 returns-clause-ended g c =
     if_err _ _ c.end_input.result (λ stop f before all s.
-      let n = c.in-Ok.ensures.next before all s in
-      not_finished _ _ (g.E.Engine.stands c.close_last.new.engine) _ _ _ _ _ _ _ n.4 g.E.Engine.whole _ all n.2 stop f) c.end_input.ensures.err
+    let n = c.in-Ok.ensures.next before all s in
+    not_finished _ _ (g.E.Engine.stands c.close_last.new.engine) _ _ _ _ _ _ _ n.4 g.E.Engine.whole _ all n.2 stop f) c.end_input.ensures.err

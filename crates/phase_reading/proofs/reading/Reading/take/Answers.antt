@@ -23,16 +23,20 @@ returns-in-Err-clause-ended g c before all size s =
     let f = c.in-Some.ensures.1 in
     let stops = c.in-Err.ensures.ended before (all ++ i.0) (step_size all c.args.piece.now i.0 c.lines.rest.now c.in-Some.text.now c.in-Some.after.now i.1 f size) (i.2 before all s) in
     subst (λ (l : List ℕ). Stops g.E.Engine.stopped g.E.Engine.begins g.E.Engine.meets c.in-Err.stop l before (g.O.Sink.written c.end_line.new.sink)) (step_whole all c.args.piece.now i.0 c.lines.rest.now c.in-Some.text.now c.in-Some.after.now i.1 f)
-      (stops-longer g.E.Engine.stopped g.E.Engine.begins g.E.Engine.meets c.in-Err.stop (((all ++ i.0) ++ c.in-Some.text.now) ++ 10 ∷ []) c.in-Some.after.now before (g.O.Sink.written c.end_line.new.sink) stops)
+    (stops-longer g.E.Engine.stopped g.E.Engine.begins g.E.Engine.meets c.in-Err.stop (((all ++ i.0) ++ c.in-Some.text.now) ++ 10 ∷ []) c.in-Some.after.now before (g.O.Sink.written c.end_line.new.sink) stops)
 
 pub lines-preserved : goal.lines-preserved
 lines-preserved g c =
     let i = c.lines.invariant.known in
     let f = c.in-Some.ensures.1 in
     record {
-      known = (i.0 ++ (c.in-Some.text.now ++ 10 ∷ []), step_piece c.args.piece.now i.0 c.lines.rest.now c.in-Some.text.now c.in-Some.after.now i.1 f, λ before all s.
-        subst (λ (l : List ℕ). IsSoFar (g.E.Engine.account c.end_line.new.engine) g.E.Engine.begins g.E.Engine.meets before (g.O.Sink.written c.end_line.new.sink) l c.in-Ok.next.last.items c.in-Ok.next.lines) (step_all all i.0 c.in-Some.text.now)
-          (c.in-Ok.ensures.next before (all ++ i.0) (i.2 before all s)));
+      known = (
+        i.0 ++ (c.in-Some.text.now ++ 10 ∷ []),
+        step_piece c.args.piece.now i.0 c.lines.rest.now c.in-Some.text.now c.in-Some.after.now i.1 f,
+        λ before all s.
+            subst (λ (l : List ℕ). IsSoFar (g.E.Engine.account c.end_line.new.engine) g.E.Engine.begins g.E.Engine.meets before (g.O.Sink.written c.end_line.new.sink) l c.in-Ok.next.last.items c.in-Ok.next.lines) (step_all all i.0 c.in-Some.text.now)
+            (c.in-Ok.ensures.next before (all ++ i.0) (i.2 before all s)),
+      );
       follows = g.E.Engine.goes_on _ _ _ c.lines.invariant.follows c.end_line.ensures.follows;
       later = omega (arith, c.lines.invariant.later, c.end_line.ensures.later);
     }
@@ -46,7 +50,7 @@ returns-in-Ok-extend-clause-next g c before all s =
     let e = c.in-Ok-extend.ensures in
     let same : (all ++ i.0) ++ c.lines.rest.now ≡ all ++ c.args.piece.now = append_assoc all i.0 c.lines.rest.now ∙ ap (λ l. all ++ l) (sym i.1) in
     subst (λ (l : List ℕ). IsSoFar (g.E.Engine.account c.lines.engine) g.E.Engine.begins g.E.Engine.meets before (g.O.Sink.written c.lines.sink) l c.in-Ok-extend.next.last.items c.in-Ok-extend.next.lines) same
-      (extended _ _ (g.E.Engine.stands c.lines.engine) _ _ _ _ _ _ _ (i.2 before all s) c.lines.rest.now c.in-Ok-extend.next.last.items c.in-Ok-extend.next.lines c.in_default.ensures e.last e.lines e.size)
+    (extended _ _ (g.E.Engine.stands c.lines.engine) _ _ _ _ _ _ _ (i.2 before all s) c.lines.rest.now c.in-Ok-extend.next.last.items c.in-Ok-extend.next.lines c.in_default.ensures e.last e.lines e.size)
 
 pub returns-in-Err-extend-clause-ended : goal.returns-in-Err-extend-clause-ended
 returns-in-Err-extend-clause-ended g c before all size s =
@@ -54,4 +58,4 @@ returns-in-Err-extend-clause-ended g c before all size s =
     let same : ((all ++ i.0) ++ c.lines.rest.now) ++ [] ≡ all ++ c.args.piece.now = append-nil _ ∙ append_assoc all i.0 c.lines.rest.now ∙ ap (λ l. all ++ l) (sym i.1) in
     let some : 0 < length c.lines.rest.now = grind (arith, c.if-is_empty.ensures, c.if-is_empty.false) in
     subst (λ (l : List ℕ). Stops g.E.Engine.stopped g.E.Engine.begins g.E.Engine.meets c.in-Err-extend.stop l before (g.O.Sink.written c.lines.sink)) same
-      (not_extended _ _ (g.E.Engine.stands c.lines.engine) _ _ _ _ _ _ _ (i.2 before all s) c.in-Err-extend.stop c.lines.rest.now [] c.in_default.ensures (omega (arith, some, length-append c.lines.rest.now [])) (last_size_of all c.args.piece.now i.0 c.lines.rest.now i.1 size) c.in-Err-extend.ensures.err)
+    (not_extended _ _ (g.E.Engine.stands c.lines.engine) _ _ _ _ _ _ _ (i.2 before all s) c.in-Err-extend.stop c.lines.rest.now [] c.in_default.ensures (omega (arith, some, length-append c.lines.rest.now [])) (last_size_of all c.args.piece.now i.0 c.lines.rest.now i.1 size) c.in-Err-extend.ensures.err)
