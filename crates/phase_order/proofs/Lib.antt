@@ -1,0 +1,9 @@
+pub mod Places
+pub mod Steps
+pub mod Stamps
+pub mod Drawn
+pub mod Served
+pub mod Lines
+pub mod Ticks
+pub mod Called
+pub mod Callers
