@@ -1,0 +1,5 @@
+pub mod InPhase
+pub mod Facts
+pub mod Meeting
+pub mod Begun
+pub mod Going
