@@ -29,7 +29,7 @@ module _ (collection : Collection) (clock : ℕ) (one : 1 ≤ clock) where
   empty_at k = empty_slot collection.channels k
 
   empty_channel : (k : ℕ) → IsChannel collection (new_rest collection clock) k []
-  empty_channel k = record { sound = start_sound (channel_at collection k); keys = tt; below = tt; ticked = omega arith }
+  empty_channel k = record { kept = record { sound = start_sound (channel_at collection k); keys = tt }; below = tt; ticked = omega arith }
 
   new_journals : AreJournals collection (new_rest collection clock)
   new_journals = record {

@@ -19,6 +19,7 @@ use Rattle.phase_model.specs.Rests.{Rest, AreJournals}
 use Rattle.phase_model.specs.Phases.{IsRefused, IsPhase}
 use Rattle.phase_order.proofs.Lines.{LineDone, PhaseDone, phase_done, differ_once}
 use Rattle.phase_order.proofs.Callers.{callers_called}
+use Rattle.phase_order.proofs.Kept.{phase_journals}
 use Rattle.phase_logs.specs.Events.{events_from, events_in}
 use Rattle.phase_logs.proofs.Growing.{events_from-append}
 use Rattle.phase_logs.proofs.Entries.{more_of, log_grown, grew_by_entries}
@@ -35,6 +36,9 @@ refused_numbers P Finish answer is = absurd is
 module _ (B : Type 0) (collection : Collection) (least : ℕ) (old new : Rest) (block : List Line) (rest : AreJournals collection old) (ph : IsPhase B collection least old new block) where
   done : PhaseDone collection least old new block
   done = phase_done B collection least old new block rest ph
+
+  next : AreJournals collection new
+  next = phase_journals B collection least old new block rest ph
 
   -- no number of a phase is below the first of the least moment
   pub phase_timely : Each (λ n. least ≤ n) (all_told block)
@@ -53,17 +57,17 @@ module _ (B : Type 0) (collection : Collection) (least : ℕ) (old new : Rest) (
         met = ph.met;
         written = ph.mine;
         failures = sym (no_failures block);
-        more = more_of collection least old new block done ph.journals;
-        grown = log_grown collection least old new block done ph.journals;
-        entries = entries_by_members collection.channels (more_of collection least old new block done ph.journals) (flat_map entries_of block) (grew_by_entries collection least old new block done ph.journals);
+        more = more_of collection least old new block done next;
+        grown = log_grown collection least old new block done next;
+        entries = entries_by_members collection.channels (more_of collection least old new block done next) (flat_map entries_of block) (grew_by_entries collection least old new block done next);
         events = λ k.
             ap events_in (done.grown k).is ∙ events_from-append [] (at_slot old.journals k) (done.grown k).rest
             ∙ ap (λ (l : List Event). events_in (at_slot old.journals k) ++ l)
-            (events_by_members (events_more collection least old new block done ph.journals k) (flat_map (events_of collection.channels k) block) (grew_by_events collection least old new block done ph.journals k));
+            (events_by_members (events_more collection least old new block done next k) (flat_map (events_of collection.channels k) block) (grew_by_events collection least old new block done next k));
         lines = all_from (InPhase (start_of collection) (running_of old) (running_of new)) block
             (λ line h. ⊎_elim (λ (refused : IsRefused line.asked line.answer). line_refused (start_of collection) (running_of old) (running_of new) line refused)
-            (λ (d : LineDone collection least old new line). line_done collection least old new rows one ph.journals ph.closed.times line d)
+            (λ (d : LineDone collection least old new line). line_done collection least old new rows one next ph.closed.times line d)
             (done.lines line h));
         differ = differ_once (all_told block) done.once;
-        callers = callers_called B collection least old new block rest ph one;
+        callers = callers_called B collection least old new block rest next ph one;
       }

@@ -17,6 +17,8 @@ use Rattle.legal_output.proofs.PhaseRuns.{stopped_legal, whole_legal}
 use Rattle.phase_model.specs.Rests.{Rest, AreJournals}
 use Rattle.phase_model.specs.Phases.{IsPhase}
 use Rattle.phase_model.specs.Meets.{IsMeet, IsEnd}
+use Rattle.phase_order.proofs.Kept.{phase_journals}
+use Rattle.phase_meets.proofs.Kept.{meet_journals}
 use Rattle.phase_laws.specs.Runs.{running_of, HasRun}
 use Rattle.phase_laws.proofs.Facts.{phase_facts, phase_timely}
 use Rattle.phase_laws.proofs.Meeting.{meet_facts, end_facts}
@@ -54,8 +56,8 @@ goes_on B collection least phases old ran new block meet range h p m =
       first = h.first;
       begins = h.begins;
       run = run_more (start_of collection) h.first (running_of old) (running_of ran) (running_of new) phases phase h.run
-          (phase_facts B collection least old ran block h.journals p range) (meet_facts collection least ran new rows p.journals meet m);
-      journals = m.meets.journals;
+          (phase_facts B collection least old ran block h.journals p range) (meet_facts collection least ran new rows (phase_journals B collection least old ran block h.journals p) meet m);
+      journals = meet_journals collection least ran new m.counted (phase_journals B collection least old ran block h.journals p) m.meets;
       timely = subst (λ (l : List Line). Each (λ n. least ≤ n) (all_drawn l)) (sym (lines-more phases phase))
           (timely_more least (lines_in phases) (block ++ meet ∷ []) h.timely
           (timely_more least block (meet ∷ []) (phase_timely B collection least old ran block h.journals p) (one_timely least meet (meet_timely least meet m.counted m.answer m.meets.not_early))));
@@ -71,7 +73,7 @@ pub is_whole : (B : Type 0) (collection : Collection) (least : ℕ) (phases : Li
 is_whole B collection least phases old ran new block end asks range h p e =
     let rows : 0 < collection.seal_rows = (let r : 2 ≤ collection.seal_rows = range.seal_rows.0 in omega arith) in
     whole_legal (start_of collection) h.first (running_of old) (running_of ran) phases block end asks h.begins h.run
-    (phase_facts B collection least old ran block h.journals p range) (end_facts collection least ran new rows p.journals end e)
+    (phase_facts B collection least old ran block h.journals p range) (end_facts collection least ran new rows (phase_journals B collection least old ran block h.journals p) end e)
 
 pub whole_timely : (B : Type 0) (collection : Collection) (least : ℕ) (phases : List Phase) (old ran new : Rest) (block : List Line) (end : Line) → HasRun collection least phases old → IsPhase B collection least old ran block
     → IsEnd collection least ran new end → Each (λ n. least ≤ n) (all_drawn ((lines_in phases ++ block) ++ end ∷ []))

@@ -26,7 +26,7 @@ use Rattle.call_model.specs.Calls.{SealsAll, IsCall}
 use Rattle.phase_model.specs.Rests.{Rest, AreJournals}
 use Rattle.phase_model.specs.Phases.{IsRefused}
 use Rattle.phase_order.proofs.Lines.{Settled, LineDone}
-use Rattle.phase_order.proofs.Callers.{all_journals}
+use Rattle.phase_order.proofs.Slots.{all_journals}
 use Rattle.phase_logs.specs.Events.{events_in}
 use Rattle.phase_logs.proofs.Replies.{replied}
 use Rattle.phase_logs.proofs.SealTurns.{seal_stood}
@@ -55,7 +55,7 @@ module _ (collection : Collection) (least : ℕ) (old new : Rest) (rows : 0 < co
       seals_told collection rows old.journals new.journals by line seals
       (λ k seal at.
       let below : k < collection.channels = (let b : k < length seals = at_below seals k seal at in let n : length seals ≡ collection.channels = c.all in omega arith) in
-      (all_journals collection new next k, (next.each k below).sound.lawful, seal_stood collection old.journals new.journals by line seals steps settled c k seal at))
+      (all_journals collection new next k, (next.each k below).kept.sound.lawful, seal_stood collection old.journals new.journals by line seals steps settled c k seal at))
   sealed by line mine (asks.Search query level wait) (answers.Hits now guarantee ts hits) steps settled c = tt
   sealed by line mine (asks.Search query level wait) (answers.Pending now guarantee channel tick) steps settled c = tt
   sealed by line mine (asks.Get key level wait) (answers.Found now guarantee ts row) steps settled c = tt

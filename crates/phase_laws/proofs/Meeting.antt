@@ -14,25 +14,25 @@ use Rattle.journal_model.specs.Notes.{log_of}
 use Rattle.journal_model.specs.Lists.{joined}
 use Rattle.phase_model.specs.Rests.{Rest, AreJournals}
 use Rattle.phase_model.specs.Meets.{Meets, IsMeet, IsEnd}
-use Rattle.phase_order.proofs.Callers.{slot_past}
+use Rattle.phase_order.proofs.Slots.{slot_past}
 use Rattle.phase_logs.specs.Events.{events_in}
 use Rattle.phase_logs.proofs.Channels.{logs_of, joined_whole}
 use Rattle.phase_meets.proofs.Counted.{same_log, same_events, counts}
 use Rattle.phase_laws.specs.Runs.{running_of}
 
 module _ (collection : Collection) (least : ℕ) (old new : Rest) (rows : 0 < collection.seal_rows) (rest : AreJournals collection old) where
-  no_slot : (m : AreJournals collection new) (k : ℕ) → collection.channels ≤ k → at_slot new.journals k ≡ at_slot old.journals k
-  no_slot m k far =
-      slot_past new.journals k (let n : length new.journals ≡ collection.channels = m.many in omega arith)
+  no_slot : length new.journals ≡ length old.journals → (k : ℕ) → collection.channels ≤ k → at_slot new.journals k ≡ at_slot old.journals k
+  no_slot long k far =
+      slot_past new.journals k (let n : length old.journals ≡ collection.channels = rest.many in omega arith)
       ∙ sym (slot_past old.journals k (let n : length old.journals ≡ collection.channels = rest.many in omega arith))
 
   log_at : (counted : MeetReply) → Meets collection least old new counted → (k : ℕ) → log_of (at_slot new.journals k) ≡ log_of (at_slot old.journals k)
   log_at counted m k = ⊎_elim (λ (below : k < collection.channels). same_log collection least old new counted rows rest m k below)
-      (λ (far : collection.channels ≤ k). ap log_of (no_slot m.journals k far)) (cases_lt k collection.channels)
+      (λ (far : collection.channels ≤ k). ap log_of (no_slot m.long k far)) (cases_lt k collection.channels)
 
   events_at_rest : (counted : MeetReply) → Meets collection least old new counted → (k : ℕ) → events_in (at_slot new.journals k) ≡ events_in (at_slot old.journals k)
   events_at_rest counted m k = ⊎_elim (λ (below : k < collection.channels). same_events collection least old new counted rows rest m k below)
-      (λ (far : collection.channels ≤ k). ap events_in (no_slot m.journals k far)) (cases_lt k collection.channels)
+      (λ (far : collection.channels ≤ k). ap events_in (no_slot m.long k far)) (cases_lt k collection.channels)
 
   pub meet_facts : (line : Line) → IsMeet collection least old new line → MeetFacts (start_of collection) (running_of old) (running_of new) line
   meet_facts line m = record {

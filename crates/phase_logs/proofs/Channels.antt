@@ -19,7 +19,7 @@ use Rattle.journal_model.proofs.FollowLaws.{journal_log}
 use Rattle.view_laws.specs.Wholes.{of_key, IsOfChannel, AreOfChannelsFrom, AreOfChannels, whole}
 use Rattle.view_laws.proofs.Wholes.{whole_of_key}
 use Rattle.phase_model.specs.Rests.{Rest, AreJournals}
-use Rattle.phase_order.proofs.Callers.{slot_past, all_journals}
+use Rattle.phase_order.proofs.Slots.{slot_past, all_journals}
 
 -- the log of each journal
 abbrev pub logs_of : List (List Note) → List (List Entry)
@@ -66,7 +66,7 @@ module _ (collection : Collection) (rest : Rest) (are : AreJournals collection r
   pub rest_of_channels : AreOfChannels (channel_of collection.channels) (logs_of rest.journals)
   rest_of_channels = of_channels (channel_of collection.channels) 0 rest.journals (λ i below.
       subst (λ (k : ℕ). IsOfChannel (channel_of collection.channels) k (log_of (at_slot rest.journals i))) (let e : i ≡ 0 + i = omega arith in e)
-      (are.each i (let n : length rest.journals ≡ collection.channels = are.many in omega arith)).keys)
+      (are.each i (let n : length rest.journals ≡ collection.channels = are.many in omega arith)).kept.keys)
 
   pub rest_logs : Each IsLog (logs_of rest.journals)
   rest_logs = logs_each rest.journals (λ i below. journal_log (at_slot rest.journals i) (all_journals collection rest are i))

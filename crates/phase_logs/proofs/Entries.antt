@@ -37,7 +37,7 @@ use Rattle.call_model.specs.Calls.{WritesOnce, IsCall}
 use Rattle.phase_model.specs.Rests.{Rest, AreJournals}
 use Rattle.phase_model.specs.Phases.{IsQuiet, IsRefused}
 use Rattle.phase_order.proofs.Lines.{Settled, LineDone, NoteOf, PhaseDone, differ_once}
-use Rattle.phase_order.proofs.Callers.{all_journals}
+use Rattle.phase_order.proofs.Slots.{all_journals}
 use Rattle.phase_logs.proofs.Lists.{From, out_flat, in_flat, flat_few, filter_few}
 use Rattle.phase_logs.proofs.Standing.{Stood, stood_in}
 use Rattle.phase_logs.proofs.Replies.{kind_entries, write_stood}

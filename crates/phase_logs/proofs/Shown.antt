@@ -44,7 +44,7 @@ use Rattle.phase_model.specs.Rests.{Rest, AreJournals}
 use Rattle.phase_order.proofs.Places.{in_at, at_in}
 use Rattle.phase_order.proofs.Ticks.{journal_front, least_at}
 use Rattle.phase_order.proofs.Lines.{Settled}
-use Rattle.phase_order.proofs.Callers.{all_journals}
+use Rattle.phase_order.proofs.Slots.{all_journals}
 use Rattle.phase_logs.proofs.Channels.{logs_of, rest_of_channels, rest_logs, whole_whole}
 
 -- a look writes nothing into the log
@@ -115,7 +115,7 @@ module _ (collection : Collection) (old new : Rest) (next : AreJournals collecti
       let at : at_slot new.journals k ≡ (t.before ++ t.notes) ++ s.stands.rest = ap (at_slot new.journals) (sym home) ∙ s.stands.is in
       let log : log_of (at_slot new.journals k) ≡ log_of t.before ++ (log_of t.notes ++ log_of s.stands.rest) =
           ap log_of at ∙ log_of-append (t.before ++ t.notes) s.stands.rest ∙ ap (λ (l : List Entry). l ++ log_of s.stands.rest) (log_of-append t.before t.notes) ∙ append_assoc (log_of t.before) (log_of t.notes) (log_of s.stands.rest) in
-      all_front (λ (entry : Entry). channel_of collection.channels (key_of entry.write) ≡ k) (log_of t.before) (log_of t.notes ++ log_of s.stands.rest) (subst (IsOfChannel (channel_of collection.channels) k) log (next.each k below).keys)
+      all_front (λ (entry : Entry). channel_of collection.channels (key_of entry.write) ≡ k) (log_of t.before) (log_of t.notes ++ log_of s.stands.rest) (subst (IsOfChannel (channel_of collection.channels) k) log (next.each k below).kept.keys)
 
   found_log : (t : Turned Note) → Settled old.journals new.journals t → IsLog (log_of t.before)
   found_log t s =

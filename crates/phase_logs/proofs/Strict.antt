@@ -33,7 +33,7 @@ use Rattle.phase_model.specs.Rests.{Rest, AreJournals}
 use Rattle.phase_model.specs.Phases.{IsQuiet}
 use Rattle.phase_order.proofs.Steps.{among_here}
 use Rattle.phase_order.proofs.Lines.{NoteOf, PhaseDone}
-use Rattle.phase_order.proofs.Callers.{all_journals}
+use Rattle.phase_order.proofs.Slots.{all_journals}
 use Rattle.phase_logs.proofs.Lists.{same_item}
 use Rattle.phase_logs.proofs.Origins.{FromWrite, FromSeal, Origin, Quiet, Written, Sealed, origin}
 

@@ -113,10 +113,10 @@ module _ (collection : Collection) (least : ℕ) (old new : Rest) (counted : Mee
         ∙ ap (λ (l : List Event). events_in (before k) ++ l) (quiet_events (before k) (meet_tick meets.by counted.ts.0 ∷ meets.more) quiet) ∙ append-nil (events_in (before k))
 
     lawful : IsLawful (channel_at collection k) (behind k)
-    lawful = (m.journals.each k below).sound.lawful
+    lawful = (m.kept k below).sound.lawful
 
     journal : IsJournal (behind k)
-    journal = (m.journals.each k below).sound.journal
+    journal = (m.kept k below).sound.journal
 
     tail_is : TailOf (layout_of (channel_at collection k) (behind k)) (walk collection.seal_rows (events_in (behind k)))
     tail_is = tails (channel_at collection k) rows (behind k) lawful
@@ -126,7 +126,7 @@ module _ (collection : Collection) (least : ℕ) (old new : Rest) (counted : Mee
     same_tail = ap (walk collection.seal_rows) (same_events ∙ sym (events_low counted.ts.0 old.clock (before k) m.above (rest.each k below).below))
 
     bounded : IsBounded (channel_at collection k) (counts_of (channel_at collection k) (behind k))
-    bounded = counts_bound (channel_at collection k) (behind k) new.floor rows lawful (m.journals.each k below).sound.rows
+    bounded = counts_bound (channel_at collection k) (behind k) new.floor rows lawful (m.kept k below).sound.rows
 
     half : counted.failed ≡ 0 → (counts_of (channel_at collection k) (behind k)).node_rows ≤ 2 * (counts_of (channel_at collection k) (behind k)).node_live
     half none =

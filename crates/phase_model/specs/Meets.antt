@@ -1,5 +1,5 @@
 -- What a meet owes, on journals at rest: a tick in each channel, at a number above all, which becomes the floor.
-use Rattle.std.specs.Prelude.{◌≡◌, ℕ, ◌<◌, ◌≤◌, List, [], ◌∷◌, ◌++◌}
+use Rattle.std.specs.Prelude.{◌≡◌, ℕ, ◌<◌, ◌≤◌, List, [], ◌∷◌, ◌++◌, length}
 use Rattle.std.specs.List.{AllByRecursion as Each}
 use Rattle.hybrid_time.specs.declared.times.Timestamp.{Timestamp}
 use Rattle.coarse_lists.specs.declared.collections.Collection.{Collection}
@@ -11,24 +11,27 @@ use Rattle.legal_output.specs.Printed.{sum_over}
 use Rattle.journal_model.specs.declared.notes.Kind.TheVariants.{Tick}
 use Rattle.journal_model.specs.declared.notes.Note.{Note}
 use Rattle.journal_model.specs.Notes.{note_of}
+use Rattle.journal_model.specs.Journals.{AreUpTo}
 use Rattle.journal_model.specs.Layouts.{Channel}
 use Rattle.journal_model.specs.Counts.{Counts, counts_of}
 use Rattle.journal_model.specs.Groups.{meet_groups, numbers_of, MergesOf}
 use Rattle.turn_table.specs.Knowledge.{at_slot}
 use Rattle.call_model.specs.Turns.{stamp}
 use Rattle.call_model.specs.Calls.{channel_at}
-use Rattle.phase_model.specs.Rests.{Rest, AreJournals}
+use Rattle.phase_model.specs.Rests.{Rest, AreKept}
 use Rattle.phase_model.specs.Phases.{IsBackground}
 
 abbrev pub meet_tick : ℕ → ℕ → Note
 meet_tick by ts = note_of by 0 (Tick (stamp ts))
 
--- a channel meets: its tick, and behind it notes of the background, which merge the groups of a meet where nothing failed
+-- a channel meets: its tick, and behind it notes of the background, not above it, which merge the groups of a meet where
+-- nothing failed
 pub record MeetsIn (channel : Channel) (ts failed : ℕ) (before after : List Note) : Type 0 where
   pub by : ℕ
   pub more : List Note
   pub grown : after ≡ (before ++ meet_tick by ts ∷ []) ++ more
   pub background : Each IsBackground more
+  pub up_to : AreUpTo ts more
   pub merged : failed ≡ 0 → MergesOf ts [] (numbers_of (meet_groups channel (before ++ meet_tick by ts ∷ []) ts)) more
 
 -- a count of each channel
@@ -51,9 +54,12 @@ pub record Meets (collection : Collection) (least : ℕ) (old new : Rest) (count
   pub met : new.met ≡ counted.ts.0
   pub floor : new.floor ≡ counted.ts.0
   pub mine : new.mine ≡ old.mine
-  pub channels : (k : ℕ) → k < collection.channels → MeetsIn (channel_at collection k) counted.ts.0 counted.failed (at_slot old.journals k) (at_slot new.journals k)
+  pub channels : (k : ℕ) → k < collection.channels
+      → MeetsIn (channel_at collection k) counted.ts.0 counted.failed (at_slot old.journals k) (at_slot new.journals k)
   pub counts : AreCounted collection new counted
-  pub journals : AreJournals collection new
+  -- what the type of a shard keeps
+  pub long : length new.journals ≡ length old.journals
+  pub kept : AreKept collection new
 
 -- a meet that a line asks for
 pub record IsMeet (collection : Collection) (least : ℕ) (old new : Rest) (line : Line) : Type 0 where

@@ -16,7 +16,7 @@ use Rattle.seat_walks.specs.Walks.{Step, all_notes}
 use Rattle.seat_walks.specs.Closes.{Closed}
 use Rattle.call_model.specs.Turns.{by_of, time_of}
 use Rattle.call_model.specs.Walks.{Did, Ran}
-use Rattle.phase_model.specs.Rests.{Rest, AreJournals}
+use Rattle.phase_model.specs.Rests.{Rest, AreKept}
 
 -- a note that neither changes a row nor ends a tail
 abbrev pub IsQuiet : Kind → Type 0
@@ -64,11 +64,12 @@ pub record IsPhase (B : Type 0) (collection : Collection) (least : ℕ) (old new
   pub ends : List (SeatView Note B)
   pub closed : Closed by_of time_of old.clock new.clock old.journals new.journals starts ends
   pub seats : (length whose ≡ length ends) × (length starts ≡ length ends)
-  pub worked : (i : ℕ) (who : Option ℕ) (a p : SeatView Note B) → IsAt whose i who → IsAt starts i a → IsAt ends i p → Worked collection least old.mine block who a p
+  pub worked : (i : ℕ) (who : Option ℕ) (a p : SeatView Note B) → IsAt whose i who → IsAt starts i a → IsAt ends i p
+      → Worked collection least old.mine block who a p
   pub lines : Each (IsLineOf whose) block
   -- what the caller's last write was, and what stays
   pub mine : (caller : ℕ) → new.mine caller ≡ write_behind (old.mine caller) (lines_of (Some caller) block)
   pub met : new.met ≡ old.met
   pub floor : new.floor ≡ old.floor
   -- what the type of a shard keeps
-  pub journals : AreJournals collection new
+  pub kept : AreKept collection new

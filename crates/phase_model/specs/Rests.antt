@@ -19,11 +19,17 @@ pub record Rest : Type 0 where
   pub mine : ℕ → ℕ
   pub journals : List (List Note)
 
--- the journal of the channel k: it is sound, its keys are of the channel, its timestamps are below the clock, and its
--- tick is not below the last meet
-pub record IsChannel (collection : Collection) (rest : Rest) (k : ℕ) (notes : List Note) : Type 0 where
-  pub sound : IsSound (channel_at collection k) (record { notes = notes; floor = rest.floor })
+-- what the shard of a channel keeps of its journal: it is sound, and its keys are of the channel
+pub record IsKept (collection : Collection) (floor k : ℕ) (notes : List Note) : Type 0 where
+  pub sound : IsSound (channel_at collection k) (record { notes = notes; floor = floor })
   pub keys : IsOfChannel (channel_of collection.channels) k (log_of notes)
+
+abbrev pub AreKept : Collection → Rest → Type 0
+AreKept collection rest = (k : ℕ) → k < collection.channels → IsKept collection rest.floor k (at_slot rest.journals k)
+
+-- the journal of a channel: a shard keeps it, its timestamps are below the clock, and its tick is not below the last meet
+pub record IsChannel (collection : Collection) (rest : Rest) (k : ℕ) (notes : List Note) : Type 0 where
+  pub kept : IsKept collection rest.floor k notes
   pub below : AreBelow rest.clock notes
   pub ticked : rest.met ≤ tick_of notes
 

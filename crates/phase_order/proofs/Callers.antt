@@ -26,22 +26,10 @@ use Rattle.call_model.specs.Walks.{Did, Ran}
 use Rattle.phase_model.specs.Rests.{Rest, AreJournals}
 use Rattle.phase_model.specs.Phases.{IsRefused, HasSeat, IsLineOf, IsPhase}
 use Rattle.phase_order.proofs.Places.{in_at}
+use Rattle.phase_order.proofs.Slots.{all_journals}
 use Rattle.phase_order.proofs.Ticks.{journal_starts}
 use Rattle.phase_order.proofs.Lines.{seat_did, seat_stands, seat_steps, start_at, end_at}
 use Rattle.phase_order.proofs.Called.{Knows, called_from}
-
--- a slot that is not there
-pub slot_past : (journals : List (List Note)) (k : ℕ) → length journals ≤ k → at_slot journals k ≡ []
-slot_past [] k h = refl
-slot_past (x ∷ journals) zero h = absurd (omega arith)
-slot_past (x ∷ journals) (suc k) h = slot_past journals k (omega arith)
-
--- each slot is a journal
-pub all_journals : (collection : Collection) (rest : Rest) → AreJournals collection rest → (k : ℕ) → IsJournal (at_slot rest.journals k)
-all_journals collection rest are k = ⊎_elim
-    (λ (below : k < collection.channels). (are.each k below).sound.journal)
-    (λ (far : collection.channels ≤ k). subst IsJournal (sym (slot_past rest.journals k (let n : length rest.journals ≡ collection.channels = are.many in omega arith))) tt)
-    (cases_lt k collection.channels)
 
 whose_line : (caller : ℕ) (who : Option ℕ) → is_caller caller who ≡ true → who ≡ Some caller
 whose_line caller None h = absurd (true≢false (sym h))
@@ -52,7 +40,7 @@ not_refused (Bad reason) answer caller is refused = absurd (let z : ⊥ = cc in 
 not_refused (Given request) answer caller is refused = refused
 not_refused Finish answer caller is refused = refused
 
-module _ (B : Type 0) (collection : Collection) (least : ℕ) (old new : Rest) (block : List Line) (rest : AreJournals collection old) (ph : IsPhase B collection least old new block) (one : 0 < collection.channels) where
+module _ (B : Type 0) (collection : Collection) (least : ℕ) (old new : Rest) (block : List Line) (rest : AreJournals collection old) (next : AreJournals collection new) (ph : IsPhase B collection least old new block) (one : 0 < collection.channels) where
   called_at : (i caller : ℕ) (a p : SeatView Note B) → IsAt ph.whose i (Some caller) → IsAt ph.starts i a → IsAt ph.ends i p
       → AtEach (Called collection.channels old.met (old.mine caller)) [] (lines_of (Some caller) block)
   called_at i caller a p at_w at_a at_p =
@@ -61,7 +49,7 @@ module _ (B : Type 0) (collection : Collection) (least : ℕ) (old new : Rest) (
       let w : Walked by_of time_of r.middle [] p = walked by_of time_of r.middle [] p r.left in
       let clock : (x : ℕ) → IsAbove time_of a x → old.clock ≤ x = λ x above. (let f : a.table.first ≤ x = above.first in let e : a.table.first ≡ old.clock = s.begins.2 in omega arith) in
       called_from collection least old.met (old.mine caller) [] (lines_of (Some caller) block) a r.middle (old.mine caller) r.served
-      (λ k. journal_starts (starts_trans (s.seen k) (w.more k)) (all_journals collection new ph.journals k))
+      (λ k. journal_starts (starts_trans (s.seen k) (w.more k)) (all_journals collection new next k))
       (ap length s.begins.0 ∙ rest.many) one
       record {
         write = refl;

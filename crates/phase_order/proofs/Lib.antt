@@ -6,4 +6,6 @@ pub mod Served
 pub mod Lines
 pub mod Ticks
 pub mod Called
+pub mod Slots
 pub mod Callers
+pub mod Kept
