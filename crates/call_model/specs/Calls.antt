@@ -105,7 +105,8 @@ pub record SealsAll (collection : Collection) (by line : ℕ) (seals : List (Tim
   pub all : length seals ≡ collection.channels
 
 -- a search that was served in each channel: the scan of the whole of what it found there, at the least tick
-pub record FindsHits (collection : Collection) (by line mine : ℕ) (query : Query) (level : Level) (wait : Bool) (now guarantee ts : ℕ) (hits : List Hit) (steps : List (Step Note)) : Type 0 where
+pub record FindsHits (collection : Collection) (by line mine : ℕ) (query : Query) (level : Level) (wait : Bool) (now guarantee ts : ℕ) (hits : List Hit)
+    (steps : List (Step Note)) : Type 0 where
   pub turns : List (Turned Note)
   pub only : steps ≡ Draw now ∷ map Took turns
   pub guaranteed : guarantee ≡ guarantee_of level now mine
@@ -115,7 +116,8 @@ pub record FindsHits (collection : Collection) (by line mine : ℕ) (query : Que
   pub scanned : hits ≡ scan (whole_before turns) ts (plan_of collection) query
 
 -- a get that was served: the row of its key at the tick of the key's channel
-pub record FindsRow (collection : Collection) (by line mine : ℕ) (key : Key) (level : Level) (wait : Bool) (now guarantee ts : ℕ) (row : Option Named) (steps : List (Step Note)) : Type 0 where
+pub record FindsRow (collection : Collection) (by line mine : ℕ) (key : Key) (level : Level) (wait : Bool) (now guarantee ts : ℕ) (row : Option Named)
+    (steps : List (Step Note)) : Type 0 where
   pub turn : Turned Note
   pub only : steps ≡ Draw now ∷ Took turn ∷ []
   pub guaranteed : guarantee ≡ guarantee_of level now mine
@@ -134,7 +136,8 @@ pub record Pends (by line mine : ℕ) (level : Level) (wait : Bool) (now guarant
   pub below : tick < guarantee
 
 -- a search that is pending in the first channel whose tick is below the guarantee
-pub record SearchPends (collection : Collection) (by line mine : ℕ) (level : Level) (wait : Bool) (now guarantee channel tick : ℕ) (steps : List (Step Note)) : Type 0 where
+pub record SearchPends (collection : Collection) (by line mine : ℕ) (level : Level) (wait : Bool) (now guarantee channel tick : ℕ)
+    (steps : List (Step Note)) : Type 0 where
   pub front : List (Turned Note)
   pub last : Turned Note
   pub only : steps ≡ Draw now ∷ map Took (front ++ last ∷ [])
@@ -144,7 +147,8 @@ pub record SearchPends (collection : Collection) (by line mine : ℕ) (level : L
   pub pends : Pends by line mine level wait now guarantee channel tick last
 
 -- a get that is pending
-pub record GetPends (collection : Collection) (by line mine : ℕ) (key : Key) (level : Level) (wait : Bool) (now guarantee channel tick : ℕ) (steps : List (Step Note)) : Type 0 where
+pub record GetPends (collection : Collection) (by line mine : ℕ) (key : Key) (level : Level) (wait : Bool) (now guarantee channel tick : ℕ)
+    (steps : List (Step Note)) : Type 0 where
   pub turn : Turned Note
   pub only : steps ≡ Draw now ∷ Took turn ∷ []
   pub home : channel ≡ channel_of collection.channels key.0

@@ -33,7 +33,8 @@ module _ {B : Type 0} where
       (m : SeatView Note B) × Serves collection least mine s line m × IsServed collection least (write_or mine (written_of line.answer)) m lines e
 
   -- the steps of a caller: its lines are served, and where memory was wanting some steps of one request more are done
-  pub record Ran (collection : Collection) (least mine : ℕ) (s : SeatView Note B) (lines : List Line) (part : List (Step Note)) (e : SeatView Note B) : Type 0 where
+  pub record Ran (collection : Collection) (least mine : ℕ) (s : SeatView Note B) (lines : List Line) (part : List (Step Note))
+      (e : SeatView Note B) : Type 0 where
     pub middle : SeatView Note B
     pub served : IsServed collection least mine s lines middle
     pub left : Did middle part e

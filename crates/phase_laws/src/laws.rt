@@ -17,19 +17,20 @@ ghost use Rattle.phase_laws.specs.Runs.{HasRun};
 /// A new collection has run over no phase, and what has run goes on by a phase and its meet, whatever
 /// order the callers of the phase acted in.
 pub fn runs_go_on<B>()
-    ensures begin { (collection : Collection) (least clock : ℕ) → IsInRange collection → 1 ≤ clock → HasRun collection least [] (new_rest collection clock) }
-    ensures more { (collection : Collection) (least : ℕ) (phases : List Phase) (old ran new : Rest) (block : List Line) (meet : Line) → IsInRange collection
-        → HasRun collection least phases old → IsPhase B collection least old ran block → IsMeet collection least ran new meet
+    ensures begin { (collection : Collection) (least clock : ℕ) → 1 ≤ clock → HasRun collection least [] (new_rest collection clock) }
+    ensures more { (collection : Collection) (least : ℕ) (phases : List Phase) (old ran new : Rest) (block : List Line) (meet : Line)
+        → IsInRange collection → HasRun collection least phases old → IsPhase B collection least old ran block → IsMeet collection least ran new meet
         → HasRun collection least (phases ++ record { lines = block; meet = meet } ∷ []) new }
 {}
 
 /// What is printed of phases is legal: after each meet as an output that is stopped there, and with a last
 /// phase and the end as a whole.
 pub fn runs_are_legal<B>()
-    ensures stopped { (collection : Collection) (least : ℕ) (phases : List Phase) (rest : Rest) (asks : List Asked) → HasRun collection least phases rest
+    ensures stopped { (collection : Collection) (least : ℕ) (phases : List Phase) (rest : Rest) (asks : List Asked)
+        → HasRun collection least phases rest
         → Numbered 2 (lines_in phases) → map (λ line. line.asked) (lines_in phases) ≡ asks → IsLegal (start_of collection) asks (lines_in phases) }
-    ensures whole { (collection : Collection) (least : ℕ) (phases : List Phase) (old ran new : Rest) (block : List Line) (end : Line) (asks : List Asked) → IsInRange collection
-        → HasRun collection least phases old → IsPhase B collection least old ran block → IsEnd collection least ran new end
+    ensures whole { (collection : Collection) (least : ℕ) (phases : List Phase) (old ran new : Rest) (block : List Line) (end : Line) (asks : List Asked)
+        → IsInRange collection → HasRun collection least phases old → IsPhase B collection least old ran block → IsEnd collection least ran new end
         → Numbered 2 ((lines_in phases ++ block) ++ end ∷ []) → map (λ line. line.asked) ((lines_in phases ++ block) ++ end ∷ []) ≡ asks
         → IsLegal (start_of collection) asks ((lines_in phases ++ block) ++ end ∷ []) }
 {}

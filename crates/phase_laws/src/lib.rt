@@ -7,3 +7,6 @@
 mod laws;
 
 pub use crate::laws::{runs_are_legal, runs_are_timely, runs_go_on};
+
+#[cfg(test)]
+mod tests;

@@ -106,7 +106,3 @@ least_is (u ∷ turns) some = ⊎_elim
     (λ (same : least_from (tick_left u) turns ≡ tick_left u). record { place = 0; turn = u; there = refl; same = sym same })
     (λ (later : IsLeast turns (least_from (tick_left u) turns)). least_later u turns (least_from (tick_left u) turns) later)
     (least_found (tick_left u) turns)
-
--- a fold that starts at a number that no tick is above gives the least tick
-pub least_tick-most : (most : ℕ) (t : Turned Note) (turns : List (Turned Note)) → tick_left t ≤ most → least_from most (t ∷ turns) ≡ least_tick (t ∷ turns)
-least_tick-most most t turns low = ap (λ (ts : ℕ). least_from ts turns) (let m : min most (tick_left t) ≡ tick_left t = omega arith in m)
