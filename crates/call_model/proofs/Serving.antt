@@ -1,5 +1,5 @@
 -- One line more of a caller.
-use Rattle.std.proofs.Common.{◌≡◌, ℕ, List, [], ◌∷◌, ◌++◌, refl, subst}
+use Rattle.std.proofs.Common.{ℕ, List, [], ◌∷◌, ◌++◌, refl, subst}
 use Rattle.coarse_lists.specs.declared.collections.Collection.{Collection}
 use Rattle.legal_output.specs.Lines.{Line, written_of}
 use Rattle.legal_output.specs.Printed.{write_or, write_behind}

@@ -1,6 +1,6 @@
 -- What a call does inside of one turn of a channel: what it was asked and answers, the journal that it found, the notes
 -- that it added, and the numbers that it drew. `by` is the number of its seat, and `line` that of its input line.
-use Rattle.std.specs.Prelude.{◌≡◌, ◌⊎◌, ℕ, ◌<◌, ◌≤◌, Bool, true, List, [], ◌∷◌, ◌++◌, length, Option, Some}
+use Rattle.std.specs.Prelude.{◌≡◌, ◌⊎◌, ℕ, ◌<◌, ◌≤◌, Bool, true, List, [], ◌∷◌, length, Option}
 use Rattle.std.specs.FinMap as fin
 use Rattle.hybrid_time.specs.declared.times.Timestamp.{Timestamp}
 use Rattle.log_model.specs.declared.logs.Write.{Write}

@@ -1,5 +1,5 @@
 -- A caller's seat, line after line.
-use Rattle.std.specs.Prelude.{◌≡◌, ℕ, ◌≤◌, List, [], ◌∷◌, ◌++◌}
+use Rattle.std.specs.Prelude.{◌≡◌, ℕ, ◌≤◌, List, [], ◌∷◌}
 use Rattle.request_lines.specs.declared.requests.Request.{Request}
 use Rattle.coarse_lists.specs.declared.collections.Collection.{Collection}
 use Rattle.legal_output.specs.Lines.{Given, Line, written_of}

@@ -1,8 +1,6 @@
 -- A new collection.
-use Rattle.std.proofs.Common.{◌≡◌, ℕ, zero, suc, ◌<◌, ◌≤◌, List, [], ◌∷◌, length, replicate, refl, sym, ap, subst, ◌∙◌, arith}
-use Rattle.std.specs.List.{AllByRecursion as Each}
+use Rattle.std.proofs.Common.{◌≡◌, ℕ, zero, suc, ◌≤◌, List, [], length, replicate, refl, sym, ap, subst, arith}
 use Rattle.turn_table.specs.Knowledge.{at_slot}
-use Rattle.log_model.specs.declared.logs.Entry.{Entry}
 use Rattle.coarse_lists.specs.declared.collections.Collection.{Collection}
 use Rattle.legal_output.specs.Phases.{Begins, of_key}
 use Rattle.legal_output.specs.Outputs.{start_of}
@@ -11,7 +9,7 @@ use Rattle.journal_model.specs.declared.notes.Note.{Note}
 use Rattle.journal_model.specs.Notes.{log_of}
 use Rattle.journal_model.proofs.PlaceLaws.{start_sound}
 use Rattle.call_model.specs.Calls.{channel_at}
-use Rattle.phase_model.specs.Rests.{Rest, IsChannel, AreJournals, new_rest}
+use Rattle.phase_model.specs.Rests.{IsChannel, AreJournals, new_rest}
 use Rattle.phase_logs.specs.Events.{events_in}
 use Rattle.phase_laws.specs.Runs.{running_of, HasRun}
 

@@ -1,26 +1,24 @@
 -- A phase keeps what the law asks of it.
-use Rattle.std.proofs.Common.{◌≡◌, ◌⊎◌, ℕ, ◌<◌, ◌≤◌, List, [], ◌∷◌, ◌++◌, inl, inr, ⊎_elim, refl, sym, ap, subst, ◌∙◌, arith}
+use Rattle.std.proofs.Common.{ℕ, ◌<◌, ◌≤◌, List, [], ◌++◌, ⊎_elim, sym, ap, subst, ◌∙◌, arith}
 use Rattle.std.specs.List.{AllByRecursion as Each, flat_map}
 use Rattle.turn_table.specs.Knowledge.{at_slot}
 use Rattle.coarse_lists.specs.declared.collections.Collection.{Collection}
 use Rattle.coarse_lists.specs.Collections.{IsInRange}
 use Rattle.answer_lines.specs.declared.answers.Answer.{Answer}
-use Rattle.request_lines.specs.declared.requests.Request.{Request}
 use Rattle.legal_output.specs.Lines.{Asked, Bad, Given, Finish, Line, drawn}
-use Rattle.legal_output.specs.Printed.{Event, ordered, entries_of, events_of, all_drawn as all_told}
+use Rattle.legal_output.specs.Printed.{Event, entries_of, events_of, all_drawn as all_told}
 use Rattle.legal_output.specs.Phases.{InPhase, PhaseFacts}
 use Rattle.legal_output.specs.Outputs.{start_of}
 use Rattle.legal_output.proofs.Members.{entries_by_members, events_by_members}
 use Rattle.legal_output.proofs.Grown.{each-flat_map}
 use Rattle.legal_output.proofs.Tails.{no_failures}
-use Rattle.journal_model.specs.Lists.{IsIn}
 use Rattle.journal_model.proofs.ListLaws.{all_from}
 use Rattle.phase_model.specs.Rests.{Rest, AreJournals}
 use Rattle.phase_model.specs.Phases.{IsRefused, IsPhase}
 use Rattle.phase_order.proofs.Lines.{LineDone, PhaseDone, phase_done, differ_once}
 use Rattle.phase_order.proofs.Callers.{callers_called}
 use Rattle.phase_order.proofs.Kept.{phase_journals}
-use Rattle.phase_logs.specs.Events.{events_from, events_in}
+use Rattle.phase_logs.specs.Events.{events_in}
 use Rattle.phase_logs.proofs.Growing.{events_from-append}
 use Rattle.phase_logs.proofs.Entries.{more_of, log_grown, grew_by_entries}
 use Rattle.phase_logs.proofs.Events.{events_more, grew_by_events}

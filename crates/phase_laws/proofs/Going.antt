@@ -1,6 +1,6 @@
 -- A run goes on by a phase and its meet, and ends by a phase and the end.
 use Rattle.std.proofs.Common.{◌≡◌, ℕ, ◌<◌, ◌≤◌, List, [], ◌∷◌, ◌++◌, map, refl, sym, ap, subst, ◌∙◌, append-nil, arith}
-use Rattle.std.specs.List.{AllByRecursion as Each, flat_map}
+use Rattle.std.specs.List.{AllByRecursion as Each}
 use Rattle.std.proofs.lemmas.Grind.{flat_map-append}
 use Rattle.log_model.proofs.LogLaws.{each-append}
 use Rattle.coarse_lists.specs.declared.collections.Collection.{Collection}
@@ -14,7 +14,7 @@ use Rattle.legal_output.specs.Legal.{Numbered, IsLegal}
 use Rattle.legal_output.specs.Phases.{Running, Phase, PhaseFacts, MeetFacts, RunOver, lines_in}
 use Rattle.legal_output.specs.Outputs.{start_of}
 use Rattle.legal_output.proofs.PhaseRuns.{stopped_legal, whole_legal}
-use Rattle.phase_model.specs.Rests.{Rest, AreJournals}
+use Rattle.phase_model.specs.Rests.{Rest}
 use Rattle.phase_model.specs.Phases.{IsPhase}
 use Rattle.phase_model.specs.Meets.{IsMeet, IsEnd}
 use Rattle.phase_order.proofs.Kept.{phase_journals}

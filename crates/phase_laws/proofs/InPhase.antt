@@ -1,20 +1,16 @@
 -- A line of a phase keeps what the law asks of it.
-use Rattle.std.proofs.Common.{◌≡◌, ◌⊎◌, ℕ, ◌<◌, ◌≤◌, List, [], ◌∷◌, length, inl, inr, ⊎_elim, refl, sym, ap, subst, ◌∙◌, arith}
-use Rattle.std.specs.List.{AllByRecursion as Each}
+use Rattle.std.proofs.Common.{◌≡◌, ℕ, ◌<◌, ◌≤◌, List, length, refl, sym, subst, arith}
 use Rattle.turn_facts.specs.Counts.{Among}
 use Rattle.turn_facts.specs.Notes.{times}
-use Rattle.turn_facts.specs.Prefixes.{IsAt}
 use Rattle.turn_facts.proofs.Places.{at_below}
 use Rattle.turn_table.specs.Knowledge.{at_slot}
-use Rattle.seat_walks.specs.Walks.{Turned, Step, Took, all_drawn}
-use Rattle.hybrid_time.specs.declared.times.Timestamp.{Timestamp}
+use Rattle.seat_walks.specs.Walks.{Turned, Step, Took}
 use Rattle.coarse_lists.specs.declared.collections.Collection.{Collection}
 use Rattle.answer_lines.specs.declared.answers.Answer.{Answer}
 use Rattle.answer_lines.specs.declared.answers.Answer.TheVariants as answers
-use Rattle.request_lines.specs.declared.requests.Request.{Request}
 use Rattle.request_lines.specs.declared.requests.Ask.{Ask}
 use Rattle.request_lines.specs.declared.requests.Ask.TheVariants as asks
-use Rattle.legal_output.specs.Lines.{Asked, Bad, Given, Finish, Line, Start, seals_of, drawn, stamps, IsOfKind}
+use Rattle.legal_output.specs.Lines.{Asked, Bad, Given, Finish, Line, Start, seals_of, stamps, IsOfKind}
 use Rattle.legal_output.specs.Legal.{RefusedRightly, AreTails}
 use Rattle.legal_output.specs.Phases.{Running, InPhase, RepliedByChannel, ContentByChannel, tail_below}
 use Rattle.legal_output.specs.Outputs.{start_of}
@@ -22,7 +18,7 @@ use Rattle.journal_model.specs.declared.notes.Note.{Note}
 use Rattle.journal_model.specs.Lists.{IsIn}
 use Rattle.journal_model.specs.Notes.{log_of}
 use Rattle.call_model.specs.Turns.{time_of}
-use Rattle.call_model.specs.Calls.{SealsAll, IsCall}
+use Rattle.call_model.specs.Calls.{IsCall}
 use Rattle.phase_model.specs.Rests.{Rest, AreJournals}
 use Rattle.phase_model.specs.Phases.{IsRefused}
 use Rattle.phase_order.proofs.Lines.{Settled, LineDone}

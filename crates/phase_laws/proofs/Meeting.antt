@@ -1,15 +1,12 @@
 -- A meet, and the end, keep what the law asks of them.
-use Rattle.std.proofs.Common.{◌≡◌, ℕ, ◌<◌, ◌≤◌, List, [], ◌∷◌, length, ⊎_elim, refl, sym, ap, subst, ◌∙◌, arith}
+use Rattle.std.proofs.Common.{◌≡◌, ℕ, ◌<◌, ◌≤◌, length, ⊎_elim, refl, sym, ap, ◌∙◌, arith}
 use Rattle.std.proofs.lemmas.Bool.{cases_lt}
 use Rattle.turn_table.specs.Knowledge.{at_slot}
-use Rattle.log_model.specs.declared.logs.Entry.{Entry}
 use Rattle.coarse_lists.specs.declared.collections.Collection.{Collection}
 use Rattle.answer_lines.specs.declared.answers.MeetReply.{MeetReply}
 use Rattle.legal_output.specs.Lines.{Line}
-use Rattle.legal_output.specs.Printed.{Event}
 use Rattle.legal_output.specs.Phases.{MeetFacts, EndFacts}
 use Rattle.legal_output.specs.Outputs.{start_of}
-use Rattle.journal_model.specs.declared.notes.Note.{Note}
 use Rattle.journal_model.specs.Notes.{log_of}
 use Rattle.journal_model.specs.Lists.{joined}
 use Rattle.phase_model.specs.Rests.{Rest, AreJournals}

@@ -1,10 +1,9 @@
 -- What the logs grew by: the entries of the lines.
-use Rattle.std.proofs.Common.{◌≡◌, ◌≢◌, ◌⊎◌, ℕ, ℤ, ◌+◌, ◌<◌, ◌≤◌, Bool, true, false, cond, Option, Some, None, List, [], ◌∷◌, ◌++◌, map, inl, inr, ⊎_elim, refl, sym, ap, subst, ◌∙◌, arith}
-use Rattle.std.specs.List.{AllByRecursion as Each, filter, flat_map}
+use Rattle.std.proofs.Common.{◌≡◌, ◌≢◌, ℕ, ℤ, ◌<◌, ◌≤◌, Bool, true, false, cond, Option, Some, None, List, [], ◌∷◌, ◌++◌, map, inl, inr, ⊎_elim, refl, sym, ap, subst, ◌∙◌, arith}
+use Rattle.std.specs.List.{AllByRecursion as Each, flat_map}
 use Rattle.std.specs.Ordering.{int_cmp, eq_by_cmp}
 use Rattle.std.proofs.lemmas.Bool.Decides.{Decides-int_eq}
-use Rattle.turn_facts.specs.Counts.{count, Among}
-use Rattle.turn_facts.specs.Prefixes.{StartsWith}
+use Rattle.turn_facts.specs.Counts.{count}
 use Rattle.turn_facts.proofs.Counts.{count-nil}
 use Rattle.turn_table.specs.Knowledge.{at_slot}
 use Rattle.seat_walks.specs.Walks.{Step}
@@ -15,33 +14,30 @@ use Rattle.coarse_lists.specs.declared.collections.Collection.{Collection}
 use Rattle.answer_lines.specs.declared.answers.WriteReply.{WriteReply}
 use Rattle.answer_lines.specs.declared.answers.Answer.{Answer}
 use Rattle.answer_lines.specs.declared.answers.Answer.TheVariants as answers
-use Rattle.request_lines.specs.declared.requests.Request.{Request}
 use Rattle.request_lines.specs.declared.requests.Ask.{Ask}
 use Rattle.request_lines.specs.declared.requests.Ask.TheVariants as asks
 use Rattle.legal_output.specs.Lines.{Written as LegalWritten, Asked, Bad, Given, Finish, Line, channel_of, changes_in, changes_of, written_of, drawn}
 use Rattle.legal_output.specs.Printed.{entries_if, entries_of, all_drawn as all_told}
-use Rattle.legal_output.specs.Legal.{Differ}
 use Rattle.legal_output.specs.Phases.{of_key}
 use Rattle.legal_output.specs.Members.{Rises, GrewByEntries}
 use Rattle.journal_model.specs.declared.notes.Kind.{Kind}
 use Rattle.journal_model.specs.declared.notes.Kind.TheVariants.{Put, Remove, Seal}
 use Rattle.journal_model.specs.declared.notes.Note.{Note}
 use Rattle.journal_model.specs.Notes.{note_of, entries_of as kind_entries_of, entry_at, log_of}
-use Rattle.journal_model.specs.Journals.{IsJournal}
 use Rattle.journal_model.specs.Lists.{IsIn}
 use Rattle.journal_model.proofs.ListLaws.{in_left, in_right, in_cases, all_in, all_from, out_filter}
 use Rattle.journal_model.proofs.FollowLaws.{journal_log}
 use Rattle.journal_model.proofs.NoteLaws.{log_of-append}
-use Rattle.call_model.specs.Turns.{kind_of, stamp}
+use Rattle.call_model.specs.Turns.{kind_of}
 use Rattle.call_model.specs.Calls.{WritesOnce, IsCall}
 use Rattle.phase_model.specs.Rests.{Rest, AreJournals}
 use Rattle.phase_model.specs.Phases.{IsQuiet, IsRefused}
-use Rattle.phase_order.proofs.Lines.{Settled, LineDone, NoteOf, PhaseDone, differ_once}
+use Rattle.phase_order.proofs.Lines.{LineDone, NoteOf, PhaseDone, differ_once}
 use Rattle.phase_order.proofs.Slots.{all_journals}
 use Rattle.phase_logs.proofs.Lists.{From, out_flat, in_flat, flat_few, filter_few}
 use Rattle.phase_logs.proofs.Standing.{Stood, stood_in}
 use Rattle.phase_logs.proofs.Replies.{kind_entries, write_stood}
-use Rattle.phase_logs.proofs.Origins.{FromWrite, FromSeal, Origin, Quiet, Written, Sealed, origin}
+use Rattle.phase_logs.proofs.Origins.{Origin, Quiet, Written, Sealed, origin}
 
 -- ---- entries of a log
 
@@ -60,7 +56,7 @@ rises_first : (key : ℤ) (entry : Entry) (log : List Entry) (b : Bool) → eq_b
     → Rises (λ e. e.ts.0) (cond b (entry ∷ of_key key log) (of_key key log))
 rises_first key entry log true is before rest = (
   all_from (λ other. entry.ts.0 < other.ts.0) (of_key key log) (λ other h.
-  let o = out_filter (λ e. eq_by_cmp int_cmp key (key_of e.write)) other log h in later_of_key key entry other is o.1 (all_in (IsBefore entry) log other before o.0)),
+      let o = out_filter (λ e. eq_by_cmp int_cmp key (key_of e.write)) other log h in later_of_key key entry other is o.1 (all_in (IsBefore entry) log other before o.0)),
   rest,
 )
 rises_first key entry log false is before rest = rest
@@ -206,9 +202,9 @@ module _ (collection : Collection) (least : ℕ) (old new : Rest) (block : List 
         rises_of_key key (more_of k) (log_behind (log_of (at_slot old.journals k)) (more_of k) (subst IsLog (log_grown k) (journal_log (at_slot new.journals k) (all_journals collection new next k))));
     differ = λ key. differ_once (map (λ (e : Entry). e.ts.0) (of_key key (flat_map entries_of block))) (λ n.
         let a : count n (map (λ (e : Entry). e.ts.0) (of_key key (flat_map entries_of block))) ≤ count n (map (λ (e : Entry). e.ts.0) (flat_map entries_of block)) =
-            filter_few (λ (e : Entry). e.ts.0) n (λ (e : Entry). eq_by_cmp int_cmp key (key_of e.write)) (flat_map entries_of block) in
+        filter_few (λ (e : Entry). e.ts.0) n (λ (e : Entry). eq_by_cmp int_cmp key (key_of e.write)) (flat_map entries_of block) in
         let b : count n (map (λ (e : Entry). e.ts.0) (flat_map entries_of block)) ≤ count n (all_told block) =
-            flat_few entries_of (λ (line : Line). drawn line.answer) (λ (e : Entry). e.ts.0) n (λ line. entries_few n line.asked line.answer) block in
+        flat_few entries_of (λ (line : Line). drawn line.answer) (λ (e : Entry). e.ts.0) n (λ line. entries_few n line.asked line.answer) block in
         let c : count n (all_told block) ≤ 1 = done.once n in omega arith);
     noted = λ k. all_from (λ entry. IsIn entry (flat_map entries_of block)) (more_of k) (entry_noted k);
     written = all_from (λ entry. IsIn entry (more_of (channel_of collection.channels (key_of entry.write)))) (flat_map entries_of block) entry_written;

@@ -1,5 +1,5 @@
 -- What the tails grew by: the events of the lines.
-use Rattle.std.proofs.Common.{◌≡◌, ◌⊎◌, ℕ, zero, suc, ◌+◌, ◌<◌, ◌≤◌, Bool, true, false, true≢false, cond, Option, Some, None, List, [], ◌∷◌, ◌++◌, length, map, count_by, nat_eq, if◌then◌else◌, inl, inr, ⊎_elim, refl, sym, ap, subst, ◌∙◌, append_assoc, append-nil, arith, eqb-true, eq-eqb}
+use Rattle.std.proofs.Common.{◌≡◌, ℕ, zero, suc, ◌+◌, ◌<◌, ◌≤◌, Bool, true, false, true≢false, cond, Some, None, List, [], ◌∷◌, ◌++◌, length, map, count_by, nat_eq, if◌then◌else◌, inl, inr, ⊎_elim, refl, sym, ap, subst, ◌∙◌, append-nil, arith, eqb-true, eq-eqb}
 use Rattle.std.specs.List.{AllByRecursion as Each, filter, flat_map, zip}
 use Rattle.std.specs.FinMap as fin
 use mathlib.Core.Option.{some-injective, some-ne-none}
@@ -7,24 +7,23 @@ use Rattle.turn_facts.specs.Counts.{count}
 use Rattle.turn_facts.specs.Prefixes.{StartsWith, IsAt}
 use Rattle.turn_facts.proofs.Counts.{count-nil, count-append}
 use Rattle.turn_table.specs.Knowledge.{at_slot}
-use Rattle.seat_walks.specs.Walks.{Turned, Step, Took}
+use Rattle.seat_walks.specs.Walks.{Step}
 use Rattle.hybrid_time.specs.declared.times.Timestamp.{Timestamp}
 use Rattle.row_types.specs.declared.rows.Row.{Row}
 use Rattle.log_model.specs.declared.logs.Write.{Write}
 use Rattle.log_model.specs.declared.logs.Write.TheVariants as writes
 use Rattle.log_model.specs.Logs.{key_of}
 use Rattle.log_model.specs.Places.{Placed, placed}
-use Rattle.log_model.proofs.LogLaws.{each-append, each_implied}
 use Rattle.coarse_lists.specs.declared.collections.Collection.{Collection}
 use Rattle.answer_lines.specs.declared.answers.Wrote.{Wrote}
-use Rattle.answer_lines.specs.declared.answers.Wrote.TheVariants.{Inserted, Exists, Was}
+use Rattle.answer_lines.specs.declared.answers.Wrote.TheVariants.{Inserted, Exists}
 use Rattle.answer_lines.specs.declared.answers.WriteReply.{WriteReply}
 use Rattle.answer_lines.specs.declared.answers.Answer.{Answer}
 use Rattle.answer_lines.specs.declared.answers.Answer.TheVariants as answers
 use Rattle.request_lines.specs.declared.requests.Ask.{Ask}
 use Rattle.request_lines.specs.declared.requests.Ask.TheVariants as asks
 use Rattle.legal_output.specs.Lines.{Asked, Bad, Given, Finish, Line, channel_of, changes_in, changes_of, written_of, seals_of, drawn}
-use Rattle.legal_output.specs.Printed.{Event, Adds, Seals, brings, event_if, write_event, seal_event, events_of, only_at, all_drawn as all_told}
+use Rattle.legal_output.specs.Printed.{Event, Adds, brings, event_if, write_event, seal_event, events_of, only_at, all_drawn as all_told}
 use Rattle.legal_output.specs.Legal.{told_of}
 use Rattle.legal_output.specs.Members.{Rises, GrewByEvents}
 use Rattle.journal_model.specs.declared.notes.Kind.{Kind}
@@ -37,8 +36,7 @@ use Rattle.call_model.specs.Turns.{kind_of, stamp}
 use Rattle.call_model.specs.Calls.{WritesOnce, SealsAll, IsCall}
 use Rattle.phase_model.specs.Rests.{Rest, AreJournals}
 use Rattle.phase_model.specs.Phases.{IsQuiet, IsRefused}
-use Rattle.phase_order.proofs.Places.{at_in}
-use Rattle.phase_order.proofs.Lines.{Settled, LineDone, NoteOf, PhaseDone, differ_once}
+use Rattle.phase_order.proofs.Lines.{LineDone, NoteOf, PhaseDone, differ_once}
 use Rattle.phase_logs.specs.Events.{rows_in, events_at, events_from}
 use Rattle.phase_logs.proofs.Growing.{events_from-append, events_dated, events_all}
 use Rattle.phase_logs.proofs.Lists.{From, out_flat, in_flat, flat_few}
@@ -224,7 +222,7 @@ module _ (collection : Collection) (least : ℕ) (old new : Rest) (block : List 
       let c : WritesOnce collection d.by line.number write said d.steps = call_writes collection d.by line.number d.mine d.request.what line.answer d.steps write said d.call is answer in
       let note : Note = note_of d.by line.number (kind_of said.ts write) in
       let s : Stood (at_slot old.journals k) (at_slot new.journals k) c.turn.before note =
-          subst (λ (j : ℕ). Stood (at_slot old.journals j) (at_slot new.journals j) c.turn.before note) home (write_stood collection old.journals new.journals d.by line.number write said d.steps d.settled c) in
+      subst (λ (j : ℕ). Stood (at_slot old.journals j) (at_slot new.journals j) c.turn.before note) home (write_stood collection old.journals new.journals d.by line.number write said d.steps d.settled c) in
       stood_event (at_slot old.journals k) (at_slot new.journals k) c.turn.before note (done.grown k) s (the_event said.ts.0 write said.what)
       (subst (IsIn (the_event said.ts.0 write said.what)) (sym (write_events c.turn.before said.ts write said.what c.writes.told)) (inl refl))
 
@@ -284,7 +282,7 @@ module _ (collection : Collection) (least : ℕ) (old new : Rest) (block : List 
     rises = rises_more;
     differ = differ_once (map (λ (e : Event). e.ts) told) (λ n.
         let a : count n (map (λ (e : Event). e.ts) told) ≤ count n (all_told block) =
-            flat_few (events_of collection.channels k) (λ (line : Line). drawn line.answer) (λ (e : Event). e.ts) n (λ line. events_few n collection.channels k (changes_of line.asked) line.answer) block in
+        flat_few (events_of collection.channels k) (λ (line : Line). drawn line.answer) (λ (e : Event). e.ts) n (λ line. events_few n collection.channels k (changes_of line.asked) line.answer) block in
         let b : count n (all_told block) ≤ 1 = done.once n in omega arith);
     noted = all_from (λ e. IsIn e told) events_more event_noted;
     written = all_from (λ e. IsIn e events_more) told event_written;

@@ -1,43 +1,28 @@
 -- The form of an answer, its refusals and its numbers.
-use Rattle.std.proofs.Common.{◌≡◌, ◌⊎◌, ℕ, zero, suc, ◌+◌, ◌<◌, ◌≤◌, Bool, true, false, cond, Option, Some, None, List, [], ◌∷◌, ◌++◌, length, map, inl, inr, ⊎_elim, refl, sym, ap, subst, ◌∙◌, arith, Ordering, Less, Equal, Greater}
-use Rattle.std.specs.List.{AllByRecursion as Each, filter}
-use Rattle.std.specs.FinMap as fin
-use Rattle.row_types.specs.declared.rows.Row.{Row}
-use Rattle.row_types.specs.declared.hits.Hit.{Hit}
-use Rattle.row_types.specs.declared.hits.Metric.{Metric}
-use Rattle.row_types.specs.declared.hits.Metric.TheVariants as metrics
-use Rattle.row_types.specs.Hits.{distance_of}
+use Rattle.std.proofs.Common.{◌≡◌, ℕ, ◌<◌, ◌≤◌, Bool, true, false, None, List, [], ◌∷◌, ◌++◌, length, map, inl, inr, refl, sym, subst, ◌∙◌, arith}
+use Rattle.std.specs.List.{AllByRecursion as Each}
 use Rattle.turn_facts.specs.Counts.{count, Among}
 use Rattle.turn_facts.specs.Notes.{times}
 use Rattle.turn_facts.specs.Prefixes.{IsAt}
 use Rattle.turn_facts.proofs.Places.{at_map, at_last}
 use Rattle.turn_table.specs.Knowledge.{at_slot}
 use Rattle.seat_walks.specs.Walks.{Turned, Step, Draw, Took, all_drawn}
-use Rattle.hybrid_time.specs.declared.times.Timestamp.{Timestamp}
 use Rattle.hybrid_time.specs.declared.levels.Level.{Level}
 use Rattle.hybrid_time.specs.Levels.{guarantee_of}
 use Rattle.log_model.specs.declared.logs.Write.{Write}
 use Rattle.log_model.specs.declared.logs.Write.TheVariants as writes
-use Rattle.log_model.specs.declared.logs.Entry.{Entry}
-use Rattle.log_model.specs.declared.queries.Query.{Query}
-use Rattle.log_model.specs.declared.queries.Plan.{Plan}
-use Rattle.log_model.specs.Logs.{live}
-use Rattle.log_model.specs.Scans.{passes_filter, hit_of, scan}
-use Rattle.log_model.proofs.LogLaws.{each_implied}
 use Rattle.coarse_lists.specs.declared.collections.Collection.{Collection}
-use Rattle.answer_lines.specs.declared.answers.Wrote.{Wrote}
 use Rattle.answer_lines.specs.declared.answers.Answer.{Answer}
 use Rattle.answer_lines.specs.declared.answers.Answer.TheVariants as answers
 use Rattle.request_lines.specs.declared.requests.Ask.{Ask}
 use Rattle.request_lines.specs.declared.requests.Ask.TheVariants as asks
-use Rattle.legal_output.specs.Lines.{Start, Asked, Given, IsOfMetric, IsReplyTo, IsAnswerTo, met_of, drawn, stamps}
+use Rattle.legal_output.specs.Lines.{Given, IsOfMetric, IsReplyTo, IsAnswerTo, met_of, drawn, stamps}
 use Rattle.legal_output.specs.Legal.{told_of, RefusedRightly}
 use Rattle.legal_output.specs.Outputs.{start_of}
 use Rattle.journal_model.specs.declared.notes.Note.{Note}
-use Rattle.journal_model.specs.Notes.{tick_of}
 use Rattle.journal_model.specs.Lists.{IsIn}
 use Rattle.journal_model.proofs.ListLaws.{all_from}
-use Rattle.call_model.specs.Turns.{by_of, time_of}
+use Rattle.call_model.specs.Turns.{time_of}
 use Rattle.call_model.specs.Calls.{plan_of, tick_left, least_tick, IsCall}
 use Rattle.phase_order.proofs.Places.{at_in}
 use Rattle.phase_order.proofs.Steps.{among_here, among_left}

@@ -1,13 +1,11 @@
 -- Members of lists that are made of others, and numbers that stand once.
-use Rattle.std.proofs.Common.{◌≡◌, ◌⊎◌, ℕ, ◌+◌, ◌≤◌, Bool, true, false, cond, List, [], ◌∷◌, ◌++◌, map, inl, inr, ⊎_elim, refl, sym, ap, subst, ◌∙◌, arith}
+use Rattle.std.proofs.Common.{◌≡◌, ℕ, ◌+◌, ◌≤◌, Bool, true, false, cond, List, [], ◌∷◌, ◌++◌, map, inl, inr, ⊎_elim, refl, sym, ap, subst, ◌∙◌, arith}
 use Rattle.std.specs.List.{filter, flat_map}
-use Rattle.std.proofs.lemmas.Grind.{flat_map-append}
 use Rattle.std.proofs.lemmas.List.{map-append}
 use Rattle.turn_facts.specs.Counts.{count, Among}
 use Rattle.turn_facts.proofs.Counts.{count-append}
 use Rattle.journal_model.specs.Lists.{IsIn}
 use Rattle.journal_model.proofs.ListLaws.{in_left, in_right, in_cases}
-use Rattle.phase_order.proofs.Stamps.{in_among}
 
 module _ {X A : Type 0} (f : X → List A) where
   -- an item of the whole is of one of the lists

@@ -1,5 +1,5 @@
 -- The hits of a scan have the form of its metric.
-use Rattle.std.proofs.Common.{◌≡◌, ℕ, zero, suc, Bool, List, [], ◌∷◌, map, sym, subst}
+use Rattle.std.proofs.Common.{ℕ, zero, suc, Bool, List, [], ◌∷◌, map, sym, subst}
 use Rattle.std.specs.List.{filter, AllByRecursion as Each}
 use Rattle.std.specs.List.Sorted.{IsStrictlySortedBy}
 use Rattle.std.specs.Ordering.{match_ordering}
@@ -11,7 +11,7 @@ use Rattle.row_types.specs.declared.hits.Hit.{Hit}
 use Rattle.row_types.specs.declared.hits.Metric.{Metric}
 use Rattle.row_types.specs.declared.hits.Metric.TheVariants as metrics
 use Rattle.row_types.specs.Bits.{union_of, common_of}
-use Rattle.row_types.specs.Hits.{hit_cmp, in_order, least, distance_of, fraction_of}
+use Rattle.row_types.specs.Hits.{hit_cmp, in_order, distance_of, fraction_of}
 use Rattle.row_types.specs.Orders.{hits_total}
 use Rattle.row_types.proofs.Rising as rising
 use Rattle.log_model.specs.declared.logs.Entry.{Entry}

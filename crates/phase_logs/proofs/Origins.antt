@@ -1,6 +1,5 @@
 -- What kind of note a call leaves.
-use Rattle.std.proofs.Common.{◌≡◌, ◌⊎◌, ℕ, zero, suc, ◌+◌, Bool, List, [], ◌∷◌, ◌++◌, map, inl, inr, ⊎_elim, refl, sym, ap, subst, ◌∙◌, arith}
-use mathlib.Core.Option.{some, some-injective, some-ne-none}
+use Rattle.std.proofs.Common.{◌≡◌, ℕ, suc, ◌+◌, Bool, List, [], ◌∷◌, ◌++◌, map, inl, inr, ⊎_elim, refl, sym, ap, subst, ◌∙◌, arith}
 use Rattle.hybrid_time.specs.declared.times.Timestamp.{Timestamp}
 use Rattle.log_model.specs.declared.logs.Write.{Write}
 use Rattle.log_model.specs.Logs.{key_of}
@@ -11,7 +10,6 @@ use Rattle.answer_lines.specs.declared.answers.Answer.TheVariants as answers
 use Rattle.request_lines.specs.declared.requests.Ask.{Ask}
 use Rattle.request_lines.specs.declared.requests.Ask.TheVariants as asks
 use Rattle.legal_output.specs.Lines.{channel_of}
-use Rattle.legal_output.specs.Printed.{only_at}
 use Rattle.turn_facts.specs.Prefixes.{IsAt}
 use Rattle.seat_walks.specs.Walks.{Turned, Step, Draw, Took, all_notes}
 use Rattle.journal_model.specs.declared.notes.Kind.TheVariants.{Tick, Seal, Look}
@@ -19,10 +17,9 @@ use Rattle.journal_model.specs.declared.notes.Note.{Note}
 use Rattle.journal_model.specs.Notes.{note_of}
 use Rattle.journal_model.specs.Lists.{IsIn}
 use Rattle.journal_model.proofs.ListLaws.{in_cases}
-use Rattle.call_model.specs.Turns.{kind_of, stamp, Ticks, Looks, LooksAtOnce, TicksAndLooks}
-use Rattle.call_model.specs.Calls.{AreTicks, AreSeals, LooksAt, AreLooks, IsCall}
+use Rattle.call_model.specs.Turns.{kind_of, stamp, Ticks, Looks}
+use Rattle.call_model.specs.Calls.{AreTicks, AreSeals, AreLooks, IsCall}
 use Rattle.phase_model.specs.Phases.{IsQuiet}
-use Rattle.phase_order.proofs.Places.{in_at, at_in}
 use Rattle.phase_order.proofs.Steps.{OfTurn, of_turn}
 
 -- the note of a write

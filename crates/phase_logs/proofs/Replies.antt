@@ -1,12 +1,11 @@
 -- The reply to a write is that of the log at the end.
-use Rattle.std.proofs.Common.{◌≡◌, ℕ, Bool, true, false, Option, Some, None, List, [], ◌∷◌, ◌++◌, inl, inr, refl, sym, ap, subst, ◌∙◌}
+use Rattle.std.proofs.Common.{◌≡◌, ℕ, Bool, false, List, [], ◌∷◌, ◌++◌, inl, refl, sym, ap, subst, ◌∙◌}
 use Rattle.std.specs.Prelude.{IfSome}
 use Rattle.std.specs.List.{AllZip}
 use Rattle.std.specs.FinMap as fin
 use Rattle.hybrid_time.specs.declared.times.Timestamp.{Timestamp}
 use Rattle.log_model.specs.declared.logs.Write.{Write}
 use Rattle.log_model.specs.declared.logs.Write.TheVariants as writes
-use Rattle.log_model.specs.declared.logs.Entry.{Entry}
 use Rattle.log_model.specs.Logs.{key_of, was_live}
 use Rattle.coarse_lists.specs.declared.collections.Collection.{Collection}
 use Rattle.answer_lines.specs.declared.answers.Answer.{Answer}
@@ -18,12 +17,11 @@ use Rattle.legal_output.specs.Lines.{channel_of, changes_in, written_of}
 use Rattle.legal_output.specs.Legal.{told_of, reply}
 use Rattle.turn_table.specs.Knowledge.{at_slot}
 use Rattle.seat_walks.specs.Walks.{Turned, Step, Took}
-use Rattle.journal_model.specs.declared.notes.Kind.{Kind}
 use Rattle.journal_model.specs.declared.notes.Note.{Note}
 use Rattle.journal_model.specs.Notes.{note_of, entries_of, entry_at, log_of, live_in}
 use Rattle.journal_model.specs.Journals.{IsJournal}
 use Rattle.journal_model.specs.Layouts.{Channel}
-use Rattle.journal_model.specs.Answers.{Reply, Written, Served, Pending, Sealed, Silent, answer_at}
+use Rattle.journal_model.specs.Answers.{Reply, Written, answer_at}
 use Rattle.journal_model.specs.Lists.{IsIn}
 use Rattle.journal_model.proofs.AnswerLaws.{answer_is}
 use Rattle.call_model.specs.Turns.{kind_of}
@@ -68,9 +66,9 @@ write_replied collection old new journals by line write said steps settled c =
     let before : List Note = c.turn.before in
     let s : Stood (at_slot old k) (at_slot new k) before note = write_stood collection old new by line write said steps settled c in
     let at : answer_at (channel_at collection k) before note.kind ≡ Written (was_live (log_of (before ++ note ∷ s.rest)) said.ts.0 write) =
-        answer_is (channel_at collection k) before s.rest note (entry_at said.ts write) (subst IsJournal s.is (journals k)) (kind_entries said.ts write) in
+    answer_is (channel_at collection k) before s.rest note (entry_at said.ts write) (subst IsJournal s.is (journals k)) (kind_entries said.ts write) in
     let live : fin.contains_key (live_in before) (key_of write) ≡ was_live (log_of (before ++ note ∷ s.rest)) said.ts.0 write =
-        same_written (fin.contains_key (live_in before) (key_of write)) (was_live (log_of (before ++ note ∷ s.rest)) said.ts.0 write) (sym (kind_answer (channel_at collection k) before said.ts write) ∙ at) in
+    same_written (fin.contains_key (live_in before) (key_of write)) (was_live (log_of (before ++ note ∷ s.rest)) said.ts.0 write) (sym (kind_answer (channel_at collection k) before said.ts write) ∙ at) in
     c.writes.told ∙ ap (told_of write) live ∙ ap (λ (l : List Note). told_of write (was_live (log_of l) said.ts.0 write)) (sym s.is)
 
 abbrev pub IsReplied : Collection → List (List Note) → Ask → Answer → Type 0

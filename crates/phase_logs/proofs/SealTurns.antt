@@ -1,5 +1,5 @@
 -- The seal of a line in a channel, as it stands at the end.
-use Rattle.std.proofs.Common.{◌≡◌, ℕ, zero, suc, ◌+◌, ◌<◌, List, [], ◌∷◌, ◌++◌, length, map, refl, sym, ap, subst, ◌∙◌, arith}
+use Rattle.std.proofs.Common.{◌≡◌, ℕ, zero, suc, ◌+◌, ◌<◌, List, [], ◌∷◌, length, map, refl, sym, subst, ◌∙◌, arith}
 use mathlib.Core.Option.{some-injective, some-ne-none}
 use Rattle.turn_facts.specs.Counts.{Among}
 use Rattle.turn_facts.specs.Notes.{times}

@@ -1,12 +1,11 @@
 -- The rows that a seal tells are those of the tail just before it.
-use Rattle.std.proofs.Common.{◌≡◌, ◌⊎◌, ℕ, zero, suc, ◌+◌, ◌<◌, ◌≤◌, Bool, true, false, true≢false, Option, Some, None, List, [], ◌∷◌, ◌++◌, length, inl, inr, ⊎_elim, refl, sym, ap, subst, ◌∙◌, append_assoc, append-nil, arith, nat_lt, lt-ltb, ltb-true}
+use Rattle.std.proofs.Common.{◌≡◌, ℕ, suc, ◌+◌, ◌<◌, ◌≤◌, true, false, Option, Some, None, List, [], ◌∷◌, ◌++◌, ⊎_elim, refl, sym, ap, subst, ◌∙◌, append_assoc, append-nil, arith, nat_lt, lt-ltb, ltb-true}
 use Rattle.std.specs.List.{AllByRecursion as Each, filter, list_all}
 use Rattle.std.proofs.lemmas.Bool.{false_from_ne_true}
 use Rattle.std.proofs.lemmas.List.Elements.{filter-append}
-use Rattle.turn_facts.specs.Counts.{count, Among}
+use Rattle.turn_facts.specs.Counts.{Among}
 use Rattle.turn_facts.specs.Notes.{times, with_time}
 use Rattle.turn_facts.specs.Prefixes.{IsAt}
-use Rattle.turn_facts.proofs.Counts.{count-append}
 use Rattle.turn_table.specs.Knowledge.{at_slot}
 use Rattle.hybrid_time.specs.declared.times.Timestamp.{Timestamp}
 use Rattle.log_model.proofs.LogLaws.{each_implied, filter-all, filter-none}
@@ -25,10 +24,9 @@ use Rattle.journal_model.proofs.FollowLaws.{follow_text}
 use Rattle.journal_model.proofs.OrderLaws.{next_follows}
 use Rattle.call_model.specs.Turns.{stamp, time_of}
 use Rattle.call_model.specs.Calls.{channel_at}
-use Rattle.phase_order.proofs.Steps.{among_left, among_right, among_here}
-use Rattle.phase_logs.specs.Events.{events_at, events_from, events_in}
-use Rattle.phase_logs.proofs.Growing.{events_from-append, events_all, events_dated}
-use Rattle.phase_logs.proofs.Standing.{Stood}
+use Rattle.phase_order.proofs.Steps.{among_right, among_here}
+use Rattle.phase_logs.specs.Events.{events_from, events_in}
+use Rattle.phase_logs.proofs.Growing.{events_from-append, events_all}
 use Rattle.phase_logs.proofs.SealTurns.{SealAt}
 use Rattle.phase_logs.proofs.Strict.{from_front}
 use Rattle.phase_logs.proofs.Tails.{TailOf, tails}
@@ -53,7 +51,7 @@ not_below : (front : List Note) (first : Note) (middle notes : List Note) (s : �
 not_below front first middle [] s dated j = tt
 not_below front first middle (note ∷ notes) s dated j = (
   (λ t is. ⊎_elim (λ (l : s < t). omega arith) (λ (r : (s ≡ t) × (list_all (shares_batch note) (first ∷ middle) ≡ true)). let e : s ≡ t = r.0 in omega arith)
-  (follow_text front middle first note (next_follows (front ++ first ∷ middle) note j.0) s t dated is)),
+      (follow_text front middle first note (next_follows (front ++ first ∷ middle) note j.0) s t dated is)),
   not_below front first (middle ++ note ∷ []) notes s dated (subst (λ (l : List Note). IsEachFrom (λ before note. is_next before note ≡ true) l notes) (append_assoc front (first ∷ middle) (note ∷ [])) j.1),
 )
 
@@ -80,10 +78,11 @@ events_before before note rest ts dated journal low =
     (filter-all (λ (e : Event). nat_lt e.ts ts) (events_in before) (events_all (λ n. nat_lt n ts ≡ true) [] before (times_each (λ n. nat_lt n ts ≡ true) before (λ y a. low_true y ts (low y a)))))
     ∙ ap (λ (l : List Event). events_in before ++ l)
     (filter-none (λ (e : Event). nat_lt e.ts ts) (events_from before (note ∷ rest))
-    (events_all (λ n. nat_lt n ts ≡ false) before (note ∷ rest)
-    ((λ t is. high_false t ts (let q : Some t ≡ Some ts = sym is ∙ dated in let q' : t ≡ ts = cc in omega arith)),
-    each_implied (λ (later : Note). (t : ℕ) → ts_of later.kind ≡ Some t → ts ≤ t) (λ (later : Note). (t : ℕ) → ts_of later.kind ≡ Some t → nat_lt t ts ≡ false) (λ later f t is. high_false t ts (f t is)) rest
-    (not_below before note [] rest ts dated (from_front [] (before ++ note ∷ []) rest (subst IsJournal (sym (append_assoc before (note ∷ []) rest)) journal))))))
+    (events_all (λ n. nat_lt n ts ≡ false) before (note ∷ rest) (
+      (λ t is. high_false t ts (let q : Some t ≡ Some ts = sym is ∙ dated in let q' : t ≡ ts = cc in omega arith)),
+      each_implied (λ (later : Note). (t : ℕ) → ts_of later.kind ≡ Some t → ts ≤ t) (λ (later : Note). (t : ℕ) → ts_of later.kind ≡ Some t → nat_lt t ts ≡ false) (λ later f t is. high_false t ts (f t is)) rest
+          (not_below before note [] rest ts dated (from_front [] (before ++ note ∷ []) rest (subst IsJournal (sym (append_assoc before (note ∷ []) rest)) journal))),
+    )))
     ∙ append-nil (events_in before)
 
 seal_rows_told : (collection : Collection) → 0 < collection.seal_rows → (old new : List (List Note)) (by line k : ℕ) (seal : Timestamp × ℕ) → IsJournal (at_slot new k) → IsLawful (channel_at collection k) (at_slot new k)
@@ -91,7 +90,7 @@ seal_rows_told : (collection : Collection) → 0 < collection.seal_rows → (old
 seal_rows_told collection some old new by line k seal journal lawful s =
     let note : Note = note_of by line (Seal (stamp seal.0.0)) in
     let t : TailOf (layout_of (channel_at collection k) s.before) (walk collection.seal_rows (events_in s.before)) =
-        tails (channel_at collection k) some s.before (lawful_front (channel_at collection k) s.before (note ∷ s.stood.rest) (subst (IsLawful (channel_at collection k)) s.stood.is lawful)) in
+    tails (channel_at collection k) some s.before (lawful_front (channel_at collection k) s.before (note ∷ s.stood.rest) (subst (IsLawful (channel_at collection k)) s.stood.is lawful)) in
     s.rows ∙ sym t.rows
     ∙ ap (λ (l : List Event). (walk collection.seal_rows l).rows) (sym (events_before s.before note s.stood.rest seal.0.0 refl (subst IsJournal s.stood.is journal) s.above))
     ∙ ap (λ (l : List Note). (walk collection.seal_rows (filter (λ e. nat_lt e.ts seal.0.0) (events_in l))).rows) (sym s.stood.is)

@@ -1,5 +1,5 @@
 -- What a read shows is shown by the logs at the end.
-use Rattle.std.proofs.Common.{◌≡◌, ℕ, ℤ, zero, suc, ◌+◌, ◌<◌, ◌≤◌, Bool, Option, Some, None, List, [], ◌∷◌, ◌++◌, length, map, inl, inr, ⊎_elim, refl, sym, ap, subst, ◌∙◌, append_assoc, append-nil, arith}
+use Rattle.std.proofs.Common.{◌≡◌, ℕ, zero, suc, ◌+◌, ◌<◌, ◌≤◌, Bool, Option, List, [], ◌∷◌, ◌++◌, length, map, inl, inr, refl, sym, ap, subst, ◌∙◌, append_assoc, append-nil, arith}
 use Rattle.std.specs.Option.{option_map}
 use Rattle.std.specs.List.{AllByRecursion as Each}
 use Rattle.std.specs.FinMap as fin
@@ -7,12 +7,11 @@ use mathlib.Core.Option.{some-injective, some-ne-none}
 use Rattle.row_types.specs.declared.rows.Key.{Key}
 use Rattle.row_types.specs.declared.hits.Hit.{Hit}
 use Rattle.row_types.specs.Hits.{least}
-use Rattle.hybrid_time.specs.declared.times.Timestamp.{Timestamp}
 use Rattle.hybrid_time.specs.declared.levels.Level.{Level}
-use Rattle.turn_facts.specs.Prefixes.{StartsWith, IsAt}
-use Rattle.turn_facts.proofs.Places.{at_below, at_some, at_map}
+use Rattle.turn_facts.specs.Prefixes.{IsAt}
+use Rattle.turn_facts.proofs.Places.{at_map}
 use Rattle.turn_table.specs.Knowledge.{at_slot}
-use Rattle.seat_walks.specs.Walks.{Turned, Step, Draw, Took}
+use Rattle.seat_walks.specs.Walks.{Turned, Step, Took}
 use Rattle.log_model.specs.declared.logs.Entry.{Entry}
 use Rattle.log_model.specs.declared.queries.Query.{Query}
 use Rattle.log_model.specs.declared.queries.Plan.{Plan}
@@ -27,9 +26,8 @@ use Rattle.request_lines.specs.declared.requests.Ask.{Ask}
 use Rattle.request_lines.specs.declared.requests.Ask.TheVariants as asks
 use Rattle.legal_output.specs.Lines.{Start, channel_of}
 use Rattle.legal_output.specs.Phases.{IsWhole, ShowsChannels}
-use Rattle.journal_model.specs.declared.notes.Kind.TheVariants.{Tick, Look}
 use Rattle.journal_model.specs.declared.notes.Note.{Note}
-use Rattle.journal_model.specs.Notes.{note_of, log_of, tick_of}
+use Rattle.journal_model.specs.Notes.{log_of}
 use Rattle.journal_model.specs.Journals.{IsJournal}
 use Rattle.journal_model.specs.Lists.{IsIn, joined}
 use Rattle.journal_model.proofs.ListLaws.{all_front}
@@ -38,8 +36,8 @@ use Rattle.journal_model.proofs.FollowLaws.{journal_log}
 use Rattle.journal_model.proofs.ViewLaws.{Goes, goes_on}
 use Rattle.view_laws.specs.Wholes.{IsOfChannel, AreOfChannelsFrom, AreOfChannels, whole}
 use Rattle.view_laws.proofs.Wholes.{channels_scan}
-use Rattle.call_model.specs.Turns.{stamp, Looks, LooksAtOnce, TicksAndLooks}
-use Rattle.call_model.specs.Calls.{plan_of, tick_left, LooksAt, AreLooks, least_tick, log_before, whole_before, FindsHits, FindsRow, IsCall}
+use Rattle.call_model.specs.Turns.{Looks}
+use Rattle.call_model.specs.Calls.{plan_of, tick_left, LooksAt, AreLooks, least_tick, log_before, FindsHits, FindsRow, IsCall}
 use Rattle.phase_model.specs.Rests.{Rest, AreJournals}
 use Rattle.phase_order.proofs.Places.{in_at, at_in}
 use Rattle.phase_order.proofs.Ticks.{journal_front, least_at}
@@ -114,7 +112,7 @@ module _ (collection : Collection) (old new : Rest) (next : AreJournals collecti
   found_of_channel t k s home below =
       let at : at_slot new.journals k ≡ (t.before ++ t.notes) ++ s.stands.rest = ap (at_slot new.journals) (sym home) ∙ s.stands.is in
       let log : log_of (at_slot new.journals k) ≡ log_of t.before ++ (log_of t.notes ++ log_of s.stands.rest) =
-          ap log_of at ∙ log_of-append (t.before ++ t.notes) s.stands.rest ∙ ap (λ (l : List Entry). l ++ log_of s.stands.rest) (log_of-append t.before t.notes) ∙ append_assoc (log_of t.before) (log_of t.notes) (log_of s.stands.rest) in
+      ap log_of at ∙ log_of-append (t.before ++ t.notes) s.stands.rest ∙ ap (λ (l : List Entry). l ++ log_of s.stands.rest) (log_of-append t.before t.notes) ∙ append_assoc (log_of t.before) (log_of t.notes) (log_of s.stands.rest) in
       all_front (λ (entry : Entry). channel_of collection.channels (key_of entry.write) ≡ k) (log_of t.before) (log_of t.notes ++ log_of s.stands.rest) (subst (IsOfChannel (channel_of collection.channels) k) log (next.each k below).kept.keys)
 
   found_log : (t : Turned Note) → Settled old.journals new.journals t → IsLog (log_of t.before)
@@ -128,19 +126,19 @@ module _ (collection : Collection) (old new : Rest) (next : AreJournals collecti
       let within : (t : Turned Note) → IsIn t c.turns → Settled old.journals new.journals t = λ t h. (let r = in_at t c.turns h in took t r.0 r.1) in
       let many : length c.turns ≡ length new.journals = c.all ∙ sym next.many in
       let slots : (t : Turned Note) (k : ℕ) → IsIn t c.turns → LooksAt by line guarantee wait k t → k < collection.channels = λ t k h l.
-          (let s : t.slot < length new.journals = (within t h).slot in let e : t.slot ≡ k = l.0 in let n : length new.journals ≡ collection.channels = next.many in omega arith) in
+      (let s : t.slot < length new.journals = (within t h).slot in let e : t.slot ≡ k = l.0 in let n : length new.journals ≡ collection.channels = next.many in omega arith) in
       let channels : AreOfChannels (channel_of collection.channels) (map log_before c.turns) =
-          befores_each by line guarantee wait (λ k t. IsOfChannel (channel_of collection.channels) k (log_before t)) (AreOfChannelsFrom (channel_of collection.channels)) (λ k. tt) (λ k t logs here rest. (here, rest)) 0 c.turns c.looks
-          (λ t k h l. found_of_channel t k (within t h) l.0 (slots t k h l)) in
+      befores_each by line guarantee wait (λ k t. IsOfChannel (channel_of collection.channels) k (log_before t)) (AreOfChannelsFrom (channel_of collection.channels)) (λ k. tt) (λ k t logs here rest. (here, rest)) 0 c.turns c.looks
+      (λ t k h l. found_of_channel t k (within t h) l.0 (slots t k h l)) in
       let logs : Each IsLog (map log_before c.turns) =
-          befores_each by line guarantee wait (λ k t. IsLog (log_before t)) (λ k l. Each IsLog l) (λ k. tt) (λ k t logs here rest. (here, rest)) 0 c.turns c.looks (λ t k h l. found_log t (within t h)) in
+      befores_each by line guarantee wait (λ k t. IsLog (log_before t)) (λ k l. Each IsLog l) (λ k. tt) (λ k t logs here rest. (here, rest)) 0 c.turns c.looks (λ t k h l. found_log t (within t h)) in
       let same : map (λ log. scan log ts (plan_of collection) query) (map log_before c.turns) ≡ map (λ log. scan log ts (plan_of collection) query) (logs_of new.journals) =
-          scans_same by line guarantee wait (λ log. scan log ts (plan_of collection) query) 0 c.turns new.journals many c.looks
-          (λ t i at.
-          let l = looks_each by line guarantee wait 0 c.turns i t c.looks at in
-          later_scan (log_of (at_slot new.journals i)) (log_before t) (tick_left t) ts (plan_of collection) query
-          (later_log old.journals new.journals t i journals (took t i at) (let e : t.slot ≡ 0 + i = l.0 in omega arith) (look_log by line guarantee wait t.before t.notes t.drawn l.1))
-          (let low : least_tick c.turns ≤ tick_left t = least_at c.turns i t at in let is : ts ≡ least_tick c.turns = c.least in omega arith)) in
+      scans_same by line guarantee wait (λ log. scan log ts (plan_of collection) query) 0 c.turns new.journals many c.looks
+      (λ t i at.
+      let l = looks_each by line guarantee wait 0 c.turns i t c.looks at in
+      later_scan (log_of (at_slot new.journals i)) (log_before t) (tick_left t) ts (plan_of collection) query
+      (later_log old.journals new.journals t i journals (took t i at) (let e : t.slot ≡ 0 + i = l.0 in omega arith) (look_log by line guarantee wait t.before t.notes t.drawn l.1))
+      (let low : least_tick c.turns ≤ tick_left t = least_at c.turns i t at in let is : ts ≡ least_tick c.turns = c.least in omega arith)) in
       c.scanned
       ∙ sym (channels_scan ts (plan_of collection) query (channel_of collection.channels) (map log_before c.turns) channels logs)
       ∙ ap (λ (lists : List (List Hit)). least query.k (joined lists)) same
@@ -153,7 +151,7 @@ module _ (collection : Collection) (old new : Rest) (next : AreJournals collecti
       let k : ℕ = channel_of collection.channels key.0 in
       let s : Settled old.journals new.journals c.turn = settled c.turn (subst (IsIn (Took c.turn)) (sym c.only) (inr (inl refl))) in
       let l : LaterLog (log_of (at_slot new.journals k)) (log_of c.turn.before) (tick_left c.turn) =
-          later_log old.journals new.journals c.turn k journals s c.look.0 (look_log by line guarantee wait c.turn.before c.turn.notes c.turn.drawn c.look.1) in
+      later_log old.journals new.journals c.turn k journals s c.look.0 (look_log by line guarantee wait c.turn.before c.turn.notes c.turn.drawn c.look.1) in
       c.found ∙ ap (λ (rows : Rows). fin.get rows key.0) (sym (later_live (log_of (at_slot new.journals k)) (log_of c.turn.before) (tick_left c.turn) ts l (let is : ts ≡ tick_left c.turn = c.tick in omega arith)))
 
   -- a search shows the whole of the logs, and a get the log of its key's channel

@@ -1,14 +1,11 @@
 -- Where the notes of a line stand in the journals at the end.
-use Rattle.std.proofs.Common.{◌≡◌, ℕ, ◌<◌, List, [], ◌∷◌, ◌++◌, inl, inr, refl, sym, ap, subst, ◌∙◌, append_assoc, arith}
-use Rattle.turn_facts.specs.Counts.{Among}
-use Rattle.turn_facts.specs.Notes.{times}
+use Rattle.std.proofs.Common.{◌≡◌, ℕ, List, [], ◌∷◌, ◌++◌, inl, refl, sym, ap, subst, ◌∙◌, append_assoc}
 use Rattle.turn_facts.specs.Prefixes.{StartsWith}
 use Rattle.turn_table.specs.Knowledge.{at_slot}
 use Rattle.seat_walks.specs.Walks.{Turned}
 use Rattle.journal_model.specs.declared.notes.Note.{Note}
 use Rattle.journal_model.specs.Lists.{IsIn}
 use Rattle.journal_model.proofs.ListLaws.{in_right}
-use Rattle.call_model.specs.Turns.{time_of}
 use Rattle.phase_order.proofs.Lines.{Settled}
 
 -- a note that stands in a journal that has grown: what was before it goes on from the old journal

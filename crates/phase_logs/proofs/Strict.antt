@@ -1,41 +1,34 @@
 -- The timestamps of what a journal grew by in a phase rise strictly.
-use Rattle.std.proofs.Common.{◌≡◌, ◌⊎◌, ℕ, ℤ, ◌+◌, ◌<◌, ◌≤◌, Bool, true, false, true≢false, not, ◌&&◌, Option, Some, None, List, [], ◌∷◌, ◌++◌, inl, inr, ⊎_elim, refl, sym, ap, subst, ◌∙◌, append_assoc, append-nil, arith, eqb-true}
+use Rattle.std.proofs.Common.{◌≡◌, ℕ, ℤ, ◌<◌, true, true≢false, not, Option, Some, None, List, [], ◌∷◌, ◌++◌, inl, inr, ⊎_elim, refl, sym, ap, subst, ◌∙◌, append_assoc, append-nil, eqb-true}
 use Rattle.std.specs.List.{AllByRecursion as Each, list_all}
-use Rattle.std.specs.Ordering.{int_eq}
 use Rattle.std.proofs.lemmas.Bool.{and_parts}
 use Rattle.std.proofs.lemmas.Bool.Decides.{Decides-int_eq}
-use Rattle.turn_facts.specs.Counts.{count, Among}
+use Rattle.turn_facts.specs.Counts.{Among}
 use Rattle.turn_table.specs.Knowledge.{at_slot}
 use Rattle.log_model.specs.declared.logs.Write.{Write}
 use Rattle.log_model.specs.declared.logs.Write.TheVariants as writes
 use Rattle.log_model.specs.Logs.{key_of}
 use Rattle.hybrid_time.specs.declared.times.Timestamp.{Timestamp}
 use Rattle.coarse_lists.specs.declared.collections.Collection.{Collection}
-use Rattle.answer_lines.specs.declared.answers.WriteReply.{WriteReply}
 use Rattle.answer_lines.specs.declared.answers.Answer.{Answer}
-use Rattle.answer_lines.specs.declared.answers.Answer.TheVariants as answers
-use Rattle.request_lines.specs.declared.requests.Ask.{Ask}
-use Rattle.request_lines.specs.declared.requests.Ask.TheVariants as asks
 use Rattle.legal_output.specs.Lines.{Line, changes_in, changes_of, drawn}
-use Rattle.legal_output.specs.Printed.{all_drawn as all_told}
 use Rattle.journal_model.specs.declared.notes.Kind.{Kind}
 use Rattle.journal_model.specs.declared.notes.Kind.TheVariants.{Put, Remove, Seal}
 use Rattle.journal_model.specs.declared.notes.Note.{Note}
-use Rattle.journal_model.specs.Notes.{note_of, ts_of, changed_key}
-use Rattle.journal_model.specs.Journals.{is_same, is_other_key, shares_batch, may_follow, is_next, IsJournal}
+use Rattle.journal_model.specs.Notes.{ts_of, changed_key}
+use Rattle.journal_model.specs.Journals.{is_same, is_other_key, shares_batch, is_next, IsJournal}
 use Rattle.journal_model.specs.Walks.{IsEachFrom}
 use Rattle.journal_model.specs.Lists.{IsIn}
-use Rattle.journal_model.proofs.ListLaws.{in_left, in_right}
 use Rattle.journal_model.proofs.FollowLaws.{follow_text, Mate, mate_parts}
 use Rattle.journal_model.proofs.OrderLaws.{next_follows}
-use Rattle.call_model.specs.Turns.{kind_of, stamp}
+use Rattle.call_model.specs.Turns.{kind_of}
 use Rattle.phase_model.specs.Rests.{Rest, AreJournals}
 use Rattle.phase_model.specs.Phases.{IsQuiet}
 use Rattle.phase_order.proofs.Steps.{among_here}
 use Rattle.phase_order.proofs.Lines.{NoteOf, PhaseDone}
 use Rattle.phase_order.proofs.Slots.{all_journals}
 use Rattle.phase_logs.proofs.Lists.{same_item}
-use Rattle.phase_logs.proofs.Origins.{FromWrite, FromSeal, Origin, Quiet, Written, Sealed, origin}
+use Rattle.phase_logs.proofs.Origins.{FromWrite, Origin, Quiet, Written, Sealed, origin}
 
 -- later notes have later timestamps
 abbrev pub Strict : List Note → Type 0
@@ -55,11 +48,11 @@ module _ (all : List Note) (apart : (earlier later : Note) → IsIn earlier all 
   behind front first middle [] s dated here sub j = tt
   behind front first middle (note ∷ notes) s dated here sub j = (
     (λ t is. ⊎_elim (λ (l : s < t). l)
-    (λ (r : (s ≡ t) × (list_all (shares_batch note) (first ∷ middle) ≡ true)).
-    absurd (apart first note here (sub note (inl refl)) (mate_parts note first (and_parts (shares_batch note first) (list_all (shares_batch note) middle) r.1).0)))
-    (follow_text front middle first note (next_follows (front ++ first ∷ middle) note j.0) s t dated is)),
+        (λ (r : (s ≡ t) × (list_all (shares_batch note) (first ∷ middle) ≡ true)).
+        absurd (apart first note here (sub note (inl refl)) (mate_parts note first (and_parts (shares_batch note first) (list_all (shares_batch note) middle) r.1).0)))
+        (follow_text front middle first note (next_follows (front ++ first ∷ middle) note j.0) s t dated is)),
     behind front first (middle ++ note ∷ []) notes s dated here (λ n h. sub n (inr h))
-    (subst (λ (l : List Note). IsEachFrom (λ before note. is_next before note ≡ true) l notes) (append_assoc front (first ∷ middle) (note ∷ [])) j.1),
+        (subst (λ (l : List Note). IsEachFrom (λ before note. is_next before note ≡ true) l notes) (append_assoc front (first ∷ middle) (note ∷ [])) j.1),
   )
 
   strict_from : (front notes : List Note) → ((note : Note) → IsIn note notes → IsIn note all) → IsEachFrom (λ before note. is_next before note ≡ true) front notes → Strict notes
@@ -136,7 +129,7 @@ module _ (collection : Collection) (least : ℕ) (old new : Rest) (block : List 
       let ts_b : ts_of later.kind ≡ Some b.1.said.ts.0 = ap (λ (x : Note). ts_of x.kind) b.1.is ∙ kind_ts b.1.said.ts b.1.write in
       let same : a.1.said.ts.0 ≡ b.1.said.ts.0 = same_ts a.1.said.ts.0 b.1.said.ts.0 (ts_of earlier.kind) (ts_of later.kind) ts_a ts_b m.ts in
       let line : a.0.line ≡ b.0.line = same_item (λ (line : Line). drawn line.answer) b.1.said.ts.0 block (done.once b.1.said.ts.0) a.0.line b.0.line a.0.among b.0.among
-          (subst (λ (n : ℕ). Among n (drawn a.0.line.answer)) same (drew earlier a.0 a.1)) (drew later b.0 b.1) in
+      (subst (λ (n : ℕ). Among n (drawn a.0.line.answer)) same (drew earlier a.0 a.1)) (drew later b.0 b.1) in
       let keys : changed_key earlier.kind ≡ changed_key later.kind = key_of_line earlier a.0 a.1 ∙ ap (λ (line : Line). first_key (changes_of line.asked)) line ∙ sym (key_of_line later b.0 b.1) in
       let key : changed_key later.kind ≡ Some (key_of b.1.write) = ap (λ (x : Note). changed_key x.kind) b.1.is ∙ kind_key b.1.said.ts b.1.write in
       same_key (key_of b.1.write) (subst (λ (o : Option ℤ). is_other_key o o ≡ true) key (subst (λ (o : Option ℤ). is_other_key o (changed_key later.kind) ≡ true) keys m.key))

@@ -1,22 +1,21 @@
 -- The tail that events leave is that of the journal's layout, and of its boundaries no more wait than there were.
-use Rattle.std.proofs.Common.{◌≡◌, ◌≢◌, ℕ, zero, suc, ◌+◌, ◌<◌, ◌≤◌, Bool, true, false, true≢false, cond, not, ◌||◌, Option, Some, None, List, [], ◌∷◌, ◌++◌, length, nat_eq, nat_le, nat_lt, if◌then◌else◌, refl, sym, ap, subst, ◌∙◌, append-nil, arith, length-append, eqb-true, eq-eqb, leb-true, le-leb}
+use Rattle.std.proofs.Common.{◌≡◌, ℕ, zero, suc, ◌+◌, ◌<◌, ◌≤◌, Bool, true, false, true≢false, cond, not, ◌||◌, Option, Some, None, List, [], ◌∷◌, ◌++◌, length, nat_eq, nat_le, nat_lt, if◌then◌else◌, refl, sym, ap, subst, ◌∙◌, append-nil, arith, length-append, eqb-true, eq-eqb, leb-true, le-leb}
 use Rattle.std.specs.List.{filter, list_any}
 use Rattle.log_model.specs.Places.{Placed}
-use Rattle.hybrid_time.specs.declared.times.Timestamp.{Timestamp}
-use Rattle.legal_output.specs.Printed.{Event, Tail, Adds, Seals, add_row, add_rows, seal_tail, after_deed, after_events, walk}
+use Rattle.legal_output.specs.Printed.{Tail, Adds, add_row, seal_tail, after_events, walk}
 use Rattle.journal_model.specs.declared.notes.Home.{Home}
 use Rattle.journal_model.specs.declared.notes.Home.TheVariants.{Leader, Node}
 use Rattle.journal_model.specs.declared.notes.Kind.{Kind}
 use Rattle.journal_model.specs.declared.notes.Kind.TheVariants.{Put, Remove, Tick, Seal, Look, Number, Load, Release, Lists, Merge}
 use Rattle.journal_model.specs.declared.notes.Note.{Note}
 use Rattle.journal_model.specs.Puts.{effective_put}
-use Rattle.journal_model.specs.Layouts.{Channel, Layout, Segment, BegunMerge, empty_layout, after_boundary, waiting_segment, number_at, with_tail, with_row, after_seal, is_home, homes_after_load, homes_after_release, with_homes, rehome, is_among, others_in, begun_merge, merged_piece, with_segment, with_merged, layout_after, layout_of}
+use Rattle.journal_model.specs.Layouts.{Channel, Layout, Segment, BegunMerge, after_boundary, waiting_segment, number_at, with_tail, with_row, is_home, homes_after_load, homes_after_release, with_homes, rehome, is_among, others_in, begun_merge, merged_piece, with_segment, with_merged, layout_after, layout_of}
 use Rattle.journal_model.specs.Lawful.{is_lawful, IsLawful}
 use Rattle.journal_model.specs.Counts.{is_waiting, waiting_in}
 use Rattle.journal_model.proofs.WalkLaws.{by_each}
 use Rattle.journal_model.proofs.LayoutLaws.{layout-snoc}
 use Rattle.journal_model.proofs.SizeLaws.{sizes}
-use Rattle.phase_logs.specs.Events.{rows_in, events_at, events_from, events_in}
+use Rattle.phase_logs.specs.Events.{rows_in, events_at, events_in}
 use Rattle.phase_logs.proofs.Growing.{events_from-append, after_events-append}
 
 -- ---- how many segments wait

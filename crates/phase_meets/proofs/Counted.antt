@@ -1,9 +1,8 @@
 -- The counts of a meet are those of the logs and the tails.
-use Rattle.std.proofs.Common.{◌≡◌, ℕ, zero, suc, ◌+◌, ◌*◌, ◌<◌, ◌≤◌, Bool, true, Option, Some, None, List, [], ◌∷◌, ◌++◌, length, refl, sym, ap, subst, ◌∙◌, append_assoc, append-nil, arith, nat_le, le-leb, ltb-true, subst₂}
+use Rattle.std.proofs.Common.{◌≡◌, ℕ, suc, ◌+◌, ◌*◌, ◌<◌, ◌≤◌, true, Option, Some, List, [], ◌∷◌, ◌++◌, length, refl, sym, ap, subst, ◌∙◌, append_assoc, append-nil, arith, nat_le, le-leb, ltb-true, subst₂}
 use Rattle.std.specs.List.{AllByRecursion as Each, filter}
 use Rattle.std.specs.FinMap as fin
 use Rattle.turn_table.specs.Knowledge.{at_slot}
-use Rattle.hybrid_time.specs.declared.times.Timestamp.{Timestamp}
 use Rattle.log_model.specs.declared.logs.Entry.{Entry}
 use Rattle.log_model.specs.Logs.{Rows, rows_of, live}
 use Rattle.log_model.proofs.LogLaws.{each_implied, each-append, filter-all, live-all}
@@ -15,22 +14,21 @@ use Rattle.legal_output.specs.Legal.{Counts}
 use Rattle.legal_output.specs.Phases.{tail_at}
 use Rattle.legal_output.specs.Outputs.{start_of}
 use Rattle.journal_model.specs.declared.notes.Kind.{Kind}
-use Rattle.journal_model.specs.declared.notes.Kind.TheVariants.{Put, Remove, Tick, Seal}
+use Rattle.journal_model.specs.declared.notes.Kind.TheVariants.{Put, Remove, Seal}
 use Rattle.journal_model.specs.declared.notes.Note.{Note}
 use Rattle.journal_model.specs.Notes.{ts_of, entries_of, log_of, live_in}
 use Rattle.journal_model.specs.Journals.{is_below, AreBelow, IsJournal, AreUpTo}
-use Rattle.journal_model.specs.Layouts.{Channel, layout_of}
+use Rattle.journal_model.specs.Layouts.{layout_of}
 use Rattle.journal_model.specs.Lawful.{IsLawful}
 use Rattle.journal_model.specs.Lists.{joined}
 use Rattle.journal_model.specs.Counts.{IsBounded, counts_of}
 use Rattle.journal_model.proofs.CountLaws.{counts_bound}
 use Rattle.journal_model.proofs.MeetLaws.{meet_bound, all_up_to}
 use Rattle.journal_model.proofs.NoteLaws.{log_of-append}
-use Rattle.call_model.specs.Turns.{stamp}
 use Rattle.call_model.specs.Calls.{channel_at}
-use Rattle.phase_model.specs.Rests.{Rest, IsChannel, AreJournals}
+use Rattle.phase_model.specs.Rests.{Rest, AreJournals}
 use Rattle.phase_model.specs.Phases.{IsQuiet, IsBackground}
-use Rattle.phase_model.specs.Meets.{meet_tick, MeetsIn, count_at, AreCounted, Meets}
+use Rattle.phase_model.specs.Meets.{meet_tick, MeetsIn, count_at, Meets}
 use Rattle.phase_order.proofs.Ticks.{journal_front}
 use Rattle.phase_logs.specs.Events.{events_at, events_from, events_in}
 use Rattle.phase_logs.proofs.Growing.{events_from-append, events_all}
@@ -161,21 +159,21 @@ module _ (collection : Collection) (least : ℕ) (old new : Rest) (counted : Mee
     node_live = let a : counted.node_live ≡ sum_over collection.channels (count_at collection (λ c. c.node_live) new) = m.counts.node_live in
         let b : counted.node_rows ≡ sum_over collection.channels (count_at collection (λ c. c.node_rows) new) = m.counts.node_rows in
         let c : sum_over collection.channels (count_at collection (λ c. c.node_live) new) ≤ sum_over collection.channels (count_at collection (λ c. c.node_rows) new) =
-            sum_le (count_at collection (λ c. c.node_live) new) (count_at collection (λ c. c.node_rows) new) collection.channels (λ k below. (bounded k below).node_live) in omega arith;
+        sum_le (count_at collection (λ c. c.node_live) new) (count_at collection (λ c. c.node_rows) new) collection.channels (λ k below. (bounded k below).node_live) in omega arith;
     merged = λ none. let a : counted.node_live ≡ sum_over collection.channels (count_at collection (λ c. c.node_live) new) = m.counts.node_live in
         let b : counted.node_rows ≡ sum_over collection.channels (count_at collection (λ c. c.node_rows) new) = m.counts.node_rows in
         let c : sum_over collection.channels (count_at collection (λ c. c.node_rows) new) ≤ 2 * sum_over collection.channels (count_at collection (λ c. c.node_live) new) =
-            sum_double (count_at collection (λ c. c.node_rows) new) (count_at collection (λ c. c.node_live) new) collection.channels (λ k below. half k below none) in omega arith;
+        sum_double (count_at collection (λ c. c.node_rows) new) (count_at collection (λ c. c.node_live) new) collection.channels (λ k below. half k below none) in omega arith;
     least = let a : counted.node_live ≡ sum_over collection.channels (count_at collection (λ c. c.node_live) new) = m.counts.node_live in
         let b : counted.live ≡ sum_over collection.channels (count_at collection (λ c. c.live) new) = m.counts.live in
         let c : sum_over collection.channels (count_at collection (λ c. c.node_live) new) ≤ sum_over collection.channels (count_at collection (λ c. c.live) new) =
-            sum_le (count_at collection (λ c. c.node_live) new) (count_at collection (λ c. c.live) new) collection.channels (λ k below. (bounded k below).live_least) in omega arith;
+        sum_le (count_at collection (λ c. c.node_live) new) (count_at collection (λ c. c.live) new) collection.channels (λ k below. (bounded k below).live_least) in omega arith;
     most = subst₂ (λ (l t : ℕ). l ≤ t + counted.waiting * collection.seal_rows + counted.node_live) (sym m.counts.live) (sym m.counts.tail)
         (subst₂ (λ (w n : ℕ). sum_over collection.channels (count_at collection (λ c. c.live) new) ≤ sum_over collection.channels (count_at collection (λ c. c.tail) new) + w * collection.seal_rows + n) (sym m.counts.waiting) (sym m.counts.node_live)
         (sum_most (count_at collection (λ c. c.live) new) (count_at collection (λ c. c.tail) new) (count_at collection (λ c. c.waiting) new) (count_at collection (λ c. c.node_live) new) collection.seal_rows collection.channels (λ k below. (bounded k below).live_most)));
     waiting = let a : counted.waiting ≡ sum_over collection.channels (count_at collection (λ c. c.waiting) new) = m.counts.waiting in
         let b : sum_over collection.channels (count_at collection (λ c. c.waiting) new) ≤ sum_over collection.channels (λ k. (tail_at collection.seal_rows (λ j. events_in (before j)) counted.ts.0 k).segments) =
-            sum_le (count_at collection (λ c. c.waiting) new) (λ k. (tail_at collection.seal_rows (λ j. events_in (before j)) counted.ts.0 k).segments) collection.channels
-            (λ k below. subst (λ (t : Tail). count_at collection (λ c. c.waiting) new k ≤ t.segments) (same_tail k below) (tail_is k below).waits) in omega arith;
+        sum_le (count_at collection (λ c. c.waiting) new) (λ k. (tail_at collection.seal_rows (λ j. events_in (before j)) counted.ts.0 k).segments) collection.channels
+        (λ k below. subst (λ (t : Tail). count_at collection (λ c. c.waiting) new k ≤ t.segments) (same_tail k below) (tail_is k below).waits) in omega arith;
     failed = omega arith;
   }

@@ -1,6 +1,5 @@
 -- The journals behind a meet are as they should be.
-use Rattle.std.proofs.Common.{◌≡◌, ℕ, ◌<◌, ◌≤◌, true, Option, Some, None, List, [], ◌∷◌, ◌++◌, length, refl, sym, ap, subst, ◌∙◌, arith, lt-ltb, ltb-true}
-use Rattle.std.specs.List.{AllByRecursion as Each}
+use Rattle.std.proofs.Common.{◌≡◌, ℕ, ◌<◌, ◌≤◌, true, Option, Some, None, List, [], ◌∷◌, ◌++◌, refl, sym, ap, subst, ◌∙◌, arith, lt-ltb, ltb-true}
 use Rattle.turn_facts.specs.Prefixes.{StartsWith}
 use Rattle.turn_table.specs.Knowledge.{at_slot}
 use Rattle.log_model.proofs.LogLaws.{each-append, each_implied}
@@ -8,7 +7,7 @@ use Rattle.coarse_lists.specs.declared.collections.Collection.{Collection}
 use Rattle.answer_lines.specs.declared.answers.MeetReply.{MeetReply}
 use Rattle.journal_model.specs.declared.notes.Note.{Note}
 use Rattle.journal_model.specs.Notes.{ts_of, tick_of}
-use Rattle.journal_model.specs.Journals.{is_below, UpTo, AreBelow, AreUpTo}
+use Rattle.journal_model.specs.Journals.{is_below, UpTo, AreBelow}
 use Rattle.journal_model.proofs.NoteLaws.{tick_of-snoc}
 use Rattle.call_model.specs.Calls.{channel_at}
 use Rattle.phase_model.specs.Rests.{Rest, AreJournals}

@@ -1,6 +1,6 @@
 -- The live rows of logs of several channels are those of each channel together.
-use Rattle.std.proofs.Common.{◌≡◌, ◌≢◌, ℕ, ℤ, zero, suc, ◌+◌, ◌-◌, ◌<◌, ◌≤◌, Bool, true, false, true≢false, cond, Option, Some, None, is_some, List, [], ◌∷◌, ◌++◌, length, map, if◌then◌else◌, refl, sym, ap, subst, ◌∙◌, append_assoc, append-nil, arith}
-use Rattle.std.specs.List.{AllByRecursion as Each, filter}
+use Rattle.std.proofs.Common.{◌≡◌, ℕ, ℤ, zero, suc, ◌+◌, ◌-◌, ◌<◌, ◌≤◌, Bool, true, false, true≢false, cond, Option, Some, None, is_some, List, [], ◌∷◌, ◌++◌, length, if◌then◌else◌, refl, sym, ap, subst, ◌∙◌, append_assoc, append-nil, arith}
+use Rattle.std.specs.List.{AllByRecursion as Each}
 use Rattle.std.specs.Ordering.{int_cmp, int_eq, eq_by_cmp}
 use Rattle.std.specs.Cmp.{int_cmp_total}
 use Rattle.std.specs.FinMap as fin
@@ -11,13 +11,13 @@ use Rattle.turn_table.specs.Knowledge.{at_slot}
 use Rattle.log_model.specs.declared.logs.Write.{Write}
 use Rattle.log_model.specs.declared.logs.Write.TheVariants as writes
 use Rattle.log_model.specs.declared.logs.Entry.{Entry}
-use Rattle.log_model.specs.Logs.{Rows, key_of, applied, after, rows_of, live}
-use Rattle.log_model.proofs.LogLaws.{each-append, each_implied, filter-none, live-all, rows_of-append, rows_of-after, after-append}
+use Rattle.log_model.specs.Logs.{Rows, key_of, applied, after, rows_of}
+use Rattle.log_model.proofs.LogLaws.{each-append, each_implied, filter-none, live-all, rows_of-append, rows_of-after}
 use Rattle.legal_output.specs.Printed.{sum_over}
 use Rattle.journal_model.specs.declared.notes.Note.{Note}
 use Rattle.journal_model.specs.Notes.{log_of, live_in}
 use Rattle.journal_model.specs.Lists.{joined}
-use Rattle.view_laws.specs.Wholes.{of_key, IsOfChannel, AreOfChannelsFrom}
+use Rattle.view_laws.specs.Wholes.{IsOfChannel, AreOfChannelsFrom}
 use Rattle.view_laws.proofs.Values.{get_none}
 use Rattle.phase_logs.proofs.Channels.{logs_of}
 
@@ -123,10 +123,10 @@ module _ (home : ℤ → ℕ) (ts : ℕ) where
   all_live k front [] f of_these low = (let e : fin.len (rows_of (front ++ [])) ≡ fin.len (rows_of front) = ap (λ (l : List Entry). fin.len (rows_of l)) (append-nil front) in omega arith)
   all_live k front (notes ∷ journals) f of_these low =
       let rest : fin.len (rows_of ((front ++ log_of notes) ++ joined (logs_of journals))) ≡ fin.len (rows_of (front ++ log_of notes)) + lives journals =
-          all_live (k + 1) (front ++ log_of notes) journals (front_more k front (log_of notes) f (low 0 (omega arith)) of_these.0) of_these.1 (λ i below. low (suc i) (omega arith)) in
+      all_live (k + 1) (front ++ log_of notes) journals (front_more k front (log_of notes) f (low 0 (omega arith)) of_these.0) of_these.1 (λ i below. low (suc i) (omega arith)) in
       let here : fin.len (rows_of (front ++ log_of notes)) ≡ fin.len (rows_of front) + fin.len (rows_of (log_of notes)) = one_more k front (log_of notes) f of_these.0 in
       let same : fin.len (rows_of (front ++ (log_of notes ++ joined (logs_of journals)))) ≡ fin.len (rows_of ((front ++ log_of notes) ++ joined (logs_of journals))) =
-          ap (λ (l : List Entry). fin.len (rows_of l)) (sym (append_assoc front (log_of notes) (joined (logs_of journals)))) in omega arith
+      ap (λ (l : List Entry). fin.len (rows_of l)) (sym (append_assoc front (log_of notes) (joined (logs_of journals)))) in omega arith
 
 sum_shift : (f : ℕ → ℕ) (n : ℕ) → sum_over (suc n) f ≡ f 0 + sum_over n (λ k. f (suc k))
 sum_shift f zero = omega arith
@@ -137,7 +137,7 @@ lives_sum [] = refl
 lives_sum (notes ∷ journals) =
     let r : lives journals ≡ sum_over (length journals) (λ k. fin.len (live_in (at_slot journals k))) = lives_sum journals in
     let s : sum_over (suc (length journals)) (λ k. fin.len (live_in (at_slot (notes ∷ journals) k))) ≡ fin.len (live_in notes) + sum_over (length journals) (λ k. fin.len (live_in (at_slot journals k))) =
-        sum_shift (λ k. fin.len (live_in (at_slot (notes ∷ journals) k))) (length journals) in omega arith
+    sum_shift (λ k. fin.len (live_in (at_slot (notes ∷ journals) k))) (length journals) in omega arith
 
 -- the rows that are live in all channels
 pub lives_together : (home : ℤ → ℕ) (ts : ℕ) (journals : List (List Note)) → AreOfChannelsFrom home 0 (logs_of journals) → ((i : ℕ) → i < length journals → Each (λ (entry : Entry). entry.ts.0 ≤ ts) (log_of (at_slot journals i)))

@@ -1,7 +1,6 @@
 -- What a meet owes, on journals at rest: a tick in each channel, at a number above all, which becomes the floor.
 use Rattle.std.specs.Prelude.{◌≡◌, ℕ, ◌<◌, ◌≤◌, List, [], ◌∷◌, ◌++◌, length}
 use Rattle.std.specs.List.{AllByRecursion as Each}
-use Rattle.hybrid_time.specs.declared.times.Timestamp.{Timestamp}
 use Rattle.coarse_lists.specs.declared.collections.Collection.{Collection}
 use Rattle.answer_lines.specs.declared.answers.MeetReply.{MeetReply}
 use Rattle.answer_lines.specs.declared.answers.Answer.TheVariants as answers

@@ -1,14 +1,12 @@
 -- What a caller was told before each of its lines, from what its seat had seen.
-use Rattle.std.proofs.Common.{◌≡◌, ℕ, zero, suc, ◌+◌, ◌<◌, ◌≤◌, Bool, true, false, Option, Some, None, List, [], ◌∷◌, ◌++◌, length, map, max, inl, inr, ⊎_elim, refl, sym, ap, subst, ◌∙◌, arith, append-nil}
+use Rattle.std.proofs.Common.{◌≡◌, ℕ, zero, suc, ◌+◌, ◌<◌, ◌≤◌, Bool, true, false, Option, Some, None, List, [], ◌∷◌, ◌++◌, length, map, inl, inr, refl, sym, ap, subst, ◌∙◌, arith}
 use Rattle.std.specs.Prelude.{IfSome, if◌then◌else◌, nat_eq}
-use Rattle.std.specs.List.{AllByRecursion as Each, flat_map}
-use Rattle.std.proofs.lemmas.Grind.{flat_map-append}
+use Rattle.std.specs.List.{AllByRecursion as Each}
 use Rattle.std.proofs.Common.{eqb-true}
 use Rattle.row_types.specs.declared.rows.Key.{Key}
 use Rattle.row_types.specs.declared.hits.Hit.{Hit}
 use Rattle.hybrid_time.specs.declared.times.Timestamp.{Timestamp}
 use Rattle.hybrid_time.specs.declared.levels.Level.{Level}
-use Rattle.hybrid_time.specs.declared.levels.Level.TheVariants.{Strong, Bounded, Session, Eventually}
 use Rattle.hybrid_time.specs.Levels.{guarantee_of}
 use Rattle.log_model.specs.declared.queries.Query.{Query}
 use Rattle.log_model.proofs.LogLaws.{each-append, each_implied}
@@ -16,12 +14,11 @@ use Rattle.coarse_lists.specs.declared.collections.Collection.{Collection}
 use Rattle.answer_lines.specs.declared.answers.Named.{Named}
 use Rattle.answer_lines.specs.declared.answers.Answer.{Answer}
 use Rattle.answer_lines.specs.declared.answers.Answer.TheVariants as answers
-use Rattle.request_lines.specs.declared.requests.Request.{Request}
 use Rattle.request_lines.specs.declared.requests.Ask.{Ask}
 use Rattle.request_lines.specs.declared.requests.Ask.TheVariants as asks
-use Rattle.legal_output.specs.Lines.{Asked, Given, Line, channel_of, reading_in, reading_of, written_of, stated_of, snapshot_of, late_of, drawn, stamps}
+use Rattle.legal_output.specs.Lines.{Asked, Given, Line, channel_of, reading_in, written_of, late_of, drawn, stamps}
 use Rattle.legal_output.specs.Printed.{only_at, all_stamps, all_ticks_shown, ticks_shown, greatest, write_behind, write_or}
-use Rattle.legal_output.specs.Legal.{AtEach, HasLevel, ReadsAt, IsGuarantee, CoversKnown, IsFresh, Rising, InOrder, IsNeeded, IsPending, PendingRightly}
+use Rattle.legal_output.specs.Legal.{AtEach, HasLevel, ReadsAt, Rising, InOrder, IsNeeded, IsPending, PendingRightly}
 use Rattle.legal_output.specs.Phases.{past_in_phase, Called}
 use Rattle.legal_output.proofs.Grown.{flat_map-push, greatest-le, greatest-lt, write_behind-push}
 use Rattle.journal_model.specs.declared.notes.Note.{Note}
@@ -30,16 +27,15 @@ use Rattle.journal_model.specs.Journals.{IsJournal}
 use Rattle.journal_model.specs.Lists.{IsIn}
 use Rattle.journal_model.proofs.ListLaws.{all_from}
 use Rattle.turn_facts.specs.Counts.{count, Among}
-use Rattle.turn_facts.specs.Notes.{times}
 use Rattle.turn_facts.specs.Prefixes.{StartsWith, IsAt}
 use Rattle.turn_facts.proofs.Prefixes.{starts_trans, starts_longer}
 use Rattle.turn_facts.proofs.Places.{at_map, at_map_back, at_last, at_some}
 use Rattle.turn_table.specs.Knowledge.{at_slot}
 use Rattle.turn_table.specs.Seats.{SeatView}
-use Rattle.seat_walks.specs.Walks.{Turned, Step, Draw, Lift, Took, Rises, all_drawn, IsAbove, Walked}
+use Rattle.seat_walks.specs.Walks.{Turned, Step, Draw, Lift, Took, all_drawn, IsAbove, Walked}
 use Rattle.seat_walks.proofs.Walking.{walked}
 use Rattle.call_model.specs.Turns.{by_of, time_of}
-use Rattle.call_model.specs.Calls.{tick_left, AreTicks, least_tick, FindsHits, FindsRow, Pends, SearchPends, GetPends, TicksAll, IsCall}
+use Rattle.call_model.specs.Calls.{tick_left, AreTicks, least_tick, FindsHits, FindsRow, Pends, IsCall}
 use Rattle.call_model.specs.Walks.{Did, Serves, IsServed}
 use Rattle.phase_order.proofs.Places.{in_at, at_in}
 use Rattle.phase_order.proofs.Steps.{among_here, among_left, WasTaken, turn_in}
@@ -132,7 +128,7 @@ module _ (collection : Collection) (least met written : ℕ) {B : Type 0} where
         let h : IsIn (Took c.turn) steps = subst (IsIn (Took c.turn)) (sym c.only) (inr (inl refl)) in
         let known : (past_in_phase collection.channels met written earlier).known_tick c.turn.slot ≤ tick_left c.turn = known_before c.turn h in
         let home : (past_in_phase collection.channels met written earlier).known_tick (channel_of collection.channels key.0) ≤ tick_left c.turn =
-            subst (λ (k : ℕ). (past_in_phase collection.channels met written earlier).known_tick k ≤ tick_left c.turn) c.look.0 known in
+        subst (λ (k : ℕ). (past_in_phase collection.channels met written earlier).known_tick k ≤ tick_left c.turn) c.look.0 known in
         let same : ts.0 ≡ tick_left c.turn = c.tick in
         record {
           guarantee = c.guaranteed ∙ ap (guarantee_of level now.0) knows.write;
@@ -158,7 +154,7 @@ module _ (collection : Collection) (least met written : ℕ) {B : Type 0} where
         → IsPending collection.channels (past_in_phase collection.channels met written earlier) (record { level = level; wait = wait; channel = only }) (record { guarantee = guarantee.0; channel = channel; tick = tick.0 })
     pends by line level wait only now guarantee tick channel t h p needed =
         let known : (past_in_phase collection.channels met written earlier).known_tick channel ≤ tick_left t =
-            subst (λ (k : ℕ). (past_in_phase collection.channels met written earlier).known_tick k ≤ tick_left t) p.look.0 (known_before t h) in
+        subst (λ (k : ℕ). (past_in_phase collection.channels met written earlier).known_tick k ≤ tick_left t) p.look.0 (known_before t h) in
         let same : tick.0 ≡ tick_left t = p.told in
         record { alone = p.alone; needed = needed; known = omega arith; below = p.below }
 
@@ -255,9 +251,11 @@ module _ (collection : Collection) (least met written : ℕ) {B : Type 0} where
     read_stamps : (level : Level) (now guarantee : ℕ) (t : Turned Note) (ts : ℕ) → Among now (all_drawn steps) → guarantee ≡ guarantee_of level now mine → IsIn (Took t) steps → ts ≤ tick_left t
         → Each Under (now ∷ guarantee ∷ ts ∷ [])
     read_stamps level now guarantee t ts drew is h low = (
-      drawn_under collection least s (Lift moment ∷ steps) m did now drew, (
-      (λ x above. guarantee_under level now mine guarantee x is (drawn_under collection least s (Lift moment ∷ steps) m did now drew x above) (still_under collection least s (Lift moment ∷ steps) m did mine knows.low x above)),
-      ((λ x above. let u : tick_left t < x = look_under t h x above in omega arith), tt)),
+      drawn_under collection least s (Lift moment ∷ steps) m did now drew,
+      (
+        (λ x above. guarantee_under level now mine guarantee x is (drawn_under collection least s (Lift moment ∷ steps) m did now drew x above) (still_under collection least s (Lift moment ∷ steps) m did mine knows.low x above)),
+        ((λ x above. let u : tick_left t < x = look_under t h x above in omega arith), tt),
+      ),
     )
 
     first_drawn : (now : ℕ) (rest : List (Step Note)) → steps ≡ Draw now ∷ rest → Among now (all_drawn steps)

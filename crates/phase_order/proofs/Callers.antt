@@ -1,13 +1,10 @@
 -- Each caller of a phase, from its seat.
-use Rattle.std.proofs.Common.{◌≡◌, ◌⊎◌, ℕ, zero, suc, ◌<◌, ◌≤◌, Bool, true, false, true≢false, Option, Some, None, List, [], ◌∷◌, ◌++◌, length, inl, inr, ⊎_elim, refl, sym, ap, subst, ◌∙◌, arith, eqb-true}
-use Rattle.std.specs.List.{AllByRecursion as Each, filter}
-use Rattle.std.proofs.lemmas.Bool.{cases_lt}
-use Rattle.turn_facts.specs.Prefixes.{StartsWith, IsAt}
-use Rattle.turn_facts.proofs.Places.{at_below, at_some}
+use Rattle.std.proofs.Common.{◌≡◌, ℕ, ◌<◌, ◌≤◌, true, true≢false, Option, Some, None, List, [], ◌∷◌, length, inl, ⊎_elim, refl, sym, ap, subst, ◌∙◌, arith, eqb-true}
+use Rattle.turn_facts.specs.Prefixes.{IsAt}
 use Rattle.turn_facts.proofs.Prefixes.{starts_trans}
 use Rattle.turn_table.specs.Knowledge.{at_slot}
 use Rattle.turn_table.specs.Seats.{SeatView}
-use Rattle.seat_walks.specs.Walks.{Step, IsAbove, Walked}
+use Rattle.seat_walks.specs.Walks.{IsAbove, Walked}
 use Rattle.seat_walks.specs.Closes.{Stands}
 use Rattle.seat_walks.proofs.Walking.{walked}
 use Rattle.coarse_lists.specs.declared.collections.Collection.{Collection}
@@ -18,18 +15,17 @@ use Rattle.legal_output.specs.Legal.{AtEach}
 use Rattle.legal_output.specs.Phases.{Called}
 use Rattle.journal_model.specs.declared.notes.Note.{Note}
 use Rattle.journal_model.specs.Notes.{tick_of}
-use Rattle.journal_model.specs.Journals.{IsJournal}
 use Rattle.journal_model.specs.Lists.{IsIn}
 use Rattle.journal_model.proofs.ListLaws.{all_in, out_filter}
 use Rattle.call_model.specs.Turns.{by_of, time_of}
-use Rattle.call_model.specs.Walks.{Did, Ran}
+use Rattle.call_model.specs.Walks.{Ran}
 use Rattle.phase_model.specs.Rests.{Rest, AreJournals}
 use Rattle.phase_model.specs.Phases.{IsRefused, HasSeat, IsLineOf, IsPhase}
 use Rattle.phase_order.proofs.Places.{in_at}
 use Rattle.phase_order.proofs.Slots.{all_journals}
 use Rattle.phase_order.proofs.Ticks.{journal_starts}
-use Rattle.phase_order.proofs.Lines.{seat_did, seat_stands, seat_steps, start_at, end_at}
-use Rattle.phase_order.proofs.Called.{Knows, called_from}
+use Rattle.phase_order.proofs.Lines.{seat_stands, seat_steps, start_at, end_at}
+use Rattle.phase_order.proofs.Called.{called_from}
 
 whose_line : (caller : ℕ) (who : Option ℕ) → is_caller caller who ≡ true → who ≡ Some caller
 whose_line caller None h = absurd (true≢false (sym h))

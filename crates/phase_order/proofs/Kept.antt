@@ -1,5 +1,5 @@
 -- The journals at the end of a phase are as they should be.
-use Rattle.std.proofs.Common.{◌≡◌, ◌⊎◌, ℕ, ◌<◌, ◌≤◌, true, Option, Some, None, List, [], ◌∷◌, ◌++◌, length, ⊎_elim, refl, sym, ap, subst, ◌∙◌, arith, lt-ltb}
+use Rattle.std.proofs.Common.{◌≡◌, ℕ, ◌<◌, ◌≤◌, true, Option, Some, None, List, [], ◌∷◌, ⊎_elim, refl, sym, subst, ◌∙◌, arith, lt-ltb}
 use Rattle.std.specs.List.{AllByRecursion as Each}
 use Rattle.turn_facts.specs.Counts.{count, Among}
 use Rattle.turn_facts.specs.Notes.{times, with_time}
@@ -8,7 +8,6 @@ use Rattle.seat_walks.specs.Walks.{all_drawn}
 use Rattle.coarse_lists.specs.declared.collections.Collection.{Collection}
 use Rattle.answer_lines.specs.declared.answers.Answer.{Answer}
 use Rattle.answer_lines.specs.declared.answers.Answer.TheVariants as answers
-use Rattle.request_lines.specs.declared.requests.Request.{Request}
 use Rattle.legal_output.specs.Lines.{Asked, Bad, Given, Finish, Line, written_of, drawn}
 use Rattle.legal_output.specs.Printed.{lines_of, write_or, write_behind}
 use Rattle.legal_output.proofs.Grown.{lines_of_each}

@@ -1,23 +1,21 @@
 -- The lines of a phase, each with what it did in the journals at the end, and each note with its line.
-use Rattle.std.proofs.Common.{◌≡◌, ◌≢◌, ◌⊎◌, ℕ, zero, suc, ◌+◌, ◌<◌, ◌≤◌, Bool, true, false, cond, Option, Some, None, List, [], ◌∷◌, ◌++◌, length, map, All, inl, inr, ⊎_elim, refl, sym, ap, subst, ◌∙◌, arith, append-nil, eq-eqb, nat_eq}
-use Rattle.std.specs.List.{AllByRecursion as Each, filter}
+use Rattle.std.proofs.Common.{◌≡◌, ◌≢◌, ◌⊎◌, ℕ, suc, ◌+◌, ◌<◌, ◌≤◌, Bool, true, false, cond, Option, Some, None, List, [], ◌∷◌, ◌++◌, length, map, inl, inr, ⊎_elim, refl, sym, ap, subst, ◌∙◌, arith, append-nil, eq-eqb}
+use Rattle.std.specs.List.{AllByRecursion as Each}
 use Rattle.turn_facts.specs.Counts.{count, Among, total}
 use Rattle.turn_facts.specs.Notes.{of, times}
 use Rattle.turn_facts.specs.Prefixes.{StartsWith, IsAt}
 use Rattle.turn_facts.proofs.Counts.{count-nil, count-here, count-else, count-append}
-use Rattle.turn_facts.proofs.Places.{same_or, at_below, at_some, at_one}
+use Rattle.turn_facts.proofs.Places.{same_or, at_below, at_some}
 use Rattle.turn_facts.proofs.Strangers.{own_rest}
 use Rattle.turn_facts.proofs.Totals.{total_le, total_below}
 use Rattle.turn_table.specs.Knowledge.{at_slot}
 use Rattle.turn_table.specs.Seats.{SeatView}
-use Rattle.seat_walks.specs.Walks.{Turned, Step, Took, all_drawn, all_notes, IsAbove, Walked}
+use Rattle.seat_walks.specs.Walks.{Turned, Step, Took, all_drawn, all_notes, Walked}
 use Rattle.seat_walks.specs.Gathers.{number_in}
-use Rattle.seat_walks.specs.Closes.{Stands, Closed}
+use Rattle.seat_walks.specs.Closes.{Stands}
 use Rattle.seat_walks.proofs.Walking.{walks_append, walked}
 use Rattle.coarse_lists.specs.declared.collections.Collection.{Collection}
 use Rattle.answer_lines.specs.declared.answers.Answer.{Answer}
-use Rattle.answer_lines.specs.declared.answers.Answer.TheVariants as answers
-use Rattle.answer_lines.specs.declared.reasons.Reason.{Reason}
 use Rattle.request_lines.specs.declared.requests.Request.{Request}
 use Rattle.legal_output.specs.Lines.{Asked, Bad, Given, Finish, Line, caller_of, drawn}
 use Rattle.legal_output.specs.Printed.{lines_of, is_caller, all_drawn as all_told}
@@ -27,10 +25,10 @@ use Rattle.journal_model.specs.Lists.{IsIn}
 use Rattle.journal_model.proofs.ListLaws.{all_in, all_from, in_filter, out_filter}
 use Rattle.call_model.specs.Turns.{by_of, time_of}
 use Rattle.call_model.specs.Calls.{IsCall}
-use Rattle.call_model.specs.Walks.{Did, IsServed, Ran}
+use Rattle.call_model.specs.Walks.{Did, Ran}
 use Rattle.phase_model.specs.Rests.{Rest, AreJournals}
-use Rattle.phase_model.specs.Phases.{IsQuiet, IsBackground, IsRefused, HasSeat, IsLineOf, Worked, Minds, IsPhase}
-use Rattle.phase_order.proofs.Places.{in_at, at_in, all_at, in_own_notes}
+use Rattle.phase_model.specs.Phases.{IsQuiet, IsBackground, IsRefused, HasSeat, IsLineOf, Minds, IsPhase}
+use Rattle.phase_order.proofs.Places.{in_at, all_at, in_own_notes}
 use Rattle.phase_order.proofs.Steps.{WasTaken, turn_in}
 use Rattle.phase_order.proofs.Stamps.{in_among}
 use Rattle.phase_order.proofs.Served.{CallIn, OfLine, steps_of, served_did, IsUnder, call_in, note_of_line, told_few}
@@ -76,9 +74,9 @@ pub differ_once : (ns : List ℕ) → ((x : ℕ) → count x ns ≤ 1) → Diffe
 differ_once [] once = tt
 differ_once (n ∷ ns) once = (
   all_from (λ m. n ≢ m) ns (λ m h. λ same.
-  let a : Among n ns = subst (λ (z : ℕ). Among z ns) (sym same) (in_among m ns h) in
-  let c : count n (n ∷ ns) ≡ 1 + count n ns = count-here n ns in
-  let o : count n (n ∷ ns) ≤ 1 = once n in omega arith),
+      let a : Among n ns = subst (λ (z : ℕ). Among z ns) (sym same) (in_among m ns h) in
+      let c : count n (n ∷ ns) ≡ 1 + count n ns = count-here n ns in
+      let o : count n (n ∷ ns) ≤ 1 = once n in omega arith),
   differ_once ns (λ x. let c : count x (n ∷ ns) ≡ count x (n ∷ []) + count x ns = count-append x (n ∷ []) ns in let o : count x (n ∷ ns) ≤ 1 = once x in omega arith),
 )
 
@@ -118,7 +116,7 @@ told_line x line block whose None is has = absurd has
 told_line x line block whose (Some caller) is has =
     let r = in_at (Some caller) whose has in
     let t : total (told_for x block) whose + told_for x (line ∷ block) (Some caller) ≤ total (told_for x (line ∷ block)) whose + told_for x block (Some caller) =
-        total_below (told_for x block) (told_for x (line ∷ block)) (told_more x line block) whose r.0 (Some caller) r.1 in
+    total_below (told_for x block) (told_for x (line ∷ block)) (told_more x line block) whose r.0 (Some caller) r.1 in
     let e : told_for x (line ∷ block) (Some caller) ≡ count x (drawn line.answer) + told_for x block (Some caller) = told_here x caller line block is in omega arith
 
 refused_draws : (x : ℕ) (asked : Asked) (answer : Answer) → IsRefused asked answer → count x (drawn answer) ≡ 0
@@ -264,7 +262,7 @@ module _ (B : Type 0) (collection : Collection) (least : ℕ) (old new : Rest) (
   once x =
       let c : count x (all_told block) ≤ total (told_for x block) ph.whose = covered x ph.whose block ph.lines in
       let t : total (told_for x block) ph.whose ≤ total (λ (p : SeatView Note B). count x p.drawn) ph.ends =
-          total_places (told_for x block) (λ (p : SeatView Note B). count x p.drawn) ph.whose ph.ends ph.seats.0 (told_for_seat x) in
+      total_places (told_for x block) (λ (p : SeatView Note B). count x p.drawn) ph.whose ph.ends ph.seats.0 (told_for_seat x) in
       let o : total (λ (p : SeatView Note B). count x p.drawn) ph.ends ≤ 1 = ph.closed.once x in omega arith
 
   pub phase_done : PhaseDone collection least old new block

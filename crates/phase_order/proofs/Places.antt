@@ -1,5 +1,5 @@
 -- Elements of lists by their places, and of the notes of a seat.
-use Rattle.std.proofs.Common.{◌≡◌, ℕ, zero, suc, ◌<◌, List, [], ◌∷◌, ◌++◌, length, All, inl, inr, refl, sym, ap, subst, ◌∙◌, arith}
+use Rattle.std.proofs.Common.{ℕ, zero, suc, List, [], ◌∷◌, All, inl, inr, sym, ap, subst}
 use mathlib.Core.Option.{some, some-injective, some-ne-none}
 use Rattle.turn_facts.specs.Notes.{of}
 use Rattle.turn_facts.specs.Prefixes.{IsAt}

@@ -1,6 +1,5 @@
 -- What a seat did for its caller as one list of steps, with the call of each line in it.
-use Rattle.std.proofs.Common.{◌≡◌, ℕ, zero, suc, ◌+◌, ◌<◌, ◌≤◌, ◌⊎◌, Option, Some, None, List, [], ◌∷◌, ◌++◌, max, inl, inr, ⊎_elim, refl, sym, ap, subst, ◌∙◌, arith}
-use Rattle.std.specs.List.{flat_map}
+use Rattle.std.proofs.Common.{◌≡◌, ℕ, ◌+◌, ◌<◌, ◌≤◌, List, [], ◌∷◌, ◌++◌, max, inl, inr, ⊎_elim, refl, sym, ap, subst, arith}
 use Rattle.coarse_lists.specs.declared.collections.Collection.{Collection}
 use Rattle.answer_lines.specs.declared.answers.Answer.{Answer}
 use Rattle.answer_lines.specs.declared.answers.Answer.TheVariants as answers
@@ -12,7 +11,7 @@ use Rattle.journal_model.specs.declared.notes.Note.{Note}
 use Rattle.journal_model.specs.Lists.{IsIn}
 use Rattle.journal_model.proofs.ListLaws.{in_left, in_right, in_cases}
 use Rattle.turn_facts.specs.Counts.{count, Among}
-use Rattle.turn_facts.proofs.Counts.{count-nil, count-append}
+use Rattle.turn_facts.proofs.Counts.{count-append}
 use Rattle.turn_table.specs.Seats.{SeatView}
 use Rattle.seat_walks.specs.Walks.{Step, Lift, after, IsAbove, Walked, all_drawn, all_notes}
 use Rattle.seat_walks.proofs.Walking.{walks_append, walks_same, above_before, walked}

@@ -1,12 +1,11 @@
 -- Numbers of answers: their order, and what they are below.
-use Rattle.std.proofs.Common.{◌≡◌, ℕ, ◌+◌, ◌-◌, ◌*◌, ◌^◌, ◌<◌, ◌≤◌, ◌⊎◌, Option, Some, None, List, [], ◌∷◌, ◌++◌, inl, inr, ⊎_elim, refl, sym, ap, subst, ◌∙◌, arith}
-use Rattle.std.specs.List.{AllByRecursion as Each}
+use Rattle.std.proofs.Common.{◌≡◌, ℕ, ◌+◌, ◌-◌, ◌*◌, ◌^◌, ◌<◌, ◌≤◌, ◌⊎◌, List, [], ◌∷◌, inl, inr, ⊎_elim, refl, ap, subst, arith}
 use Rattle.hybrid_time.specs.declared.levels.Level.{Level}
 use Rattle.hybrid_time.specs.declared.levels.Level.TheVariants.{Strong, Bounded, Session, Eventually}
 use Rattle.hybrid_time.specs.Levels.{guarantee_of}
 use Rattle.legal_output.specs.Legal.{Rising}
 use Rattle.journal_model.specs.declared.notes.Kind.{Kind}
-use Rattle.journal_model.specs.declared.notes.Kind.TheVariants.{Put, Remove, Tick, Seal, Look, Number, Load, Release, Lists, Merge}
+use Rattle.journal_model.specs.declared.notes.Kind.TheVariants.{Put, Remove, Tick, Seal}
 use Rattle.journal_model.specs.declared.notes.Note.{Note}
 use Rattle.journal_model.specs.Notes.{ts_of, tick_after, tick_from, tick_of}
 use Rattle.journal_model.specs.Lists.{IsIn}

@@ -1,13 +1,12 @@
 -- Turns, notes and numbers among the steps of a seat.
-use Rattle.std.proofs.Common.{◌≡◌, ◌≢◌, ◌⊎◌, ℕ, ◌+◌, ◌<◌, ◌≤◌, Bool, true, false, cond, ◌==◌, List, [], ◌∷◌, ◌++◌, length, map, set, Option, inl, inr, ⊎_elim, refl, sym, ap, subst, ◌∙◌, append_assoc, arith, eq-eqb, eqb-true}
+use Rattle.std.proofs.Common.{◌≡◌, ◌⊎◌, ℕ, ◌+◌, ◌<◌, Bool, true, false, cond, ◌==◌, List, [], ◌∷◌, ◌++◌, length, Option, inl, inr, ⊎_elim, refl, sym, ap, subst, ◌∙◌, append_assoc, arith, eq-eqb, eqb-true}
 use Rattle.std.proofs.lemmas.List.{length-set, get_or-set_same}
 use Rattle.turn_facts.specs.Counts.{count, Among}
 use Rattle.turn_facts.specs.Notes.{times}
 use Rattle.turn_facts.proofs.Counts.{count-nil, count-here, count-append}
 use Rattle.turn_facts.proofs.Places.{same_or}
-use Rattle.turn_table.specs.Knowledge.{at_slot}
 use Rattle.turn_table.specs.Seats.{SeatView}
-use Rattle.seat_walks.specs.Walks.{Turned, Step, Draw, Lift, Took, found, after, IsAbove, IsTurn, IsStep, Walks, drawn_in, notes_in, all_drawn, all_notes}
+use Rattle.seat_walks.specs.Walks.{Turned, Step, Draw, Lift, Took, after, IsTurn, IsStep, Walks, drawn_in, notes_in, all_drawn, all_notes}
 use Rattle.journal_model.specs.Lists.{IsIn}
 use Rattle.journal_model.proofs.ListLaws.{in_left, in_right, in_cases}
 

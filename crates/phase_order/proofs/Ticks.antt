@@ -1,21 +1,19 @@
 -- Ticks along journals, and what looks and ticks of a call tell of them.
-use Rattle.std.proofs.Common.{◌≡◌, ℕ, zero, suc, ◌+◌, ◌-◌, ◌<◌, ◌≤◌, Bool, List, [], ◌∷◌, ◌++◌, length, map, min, inl, inr, ⊎_elim, refl, sym, ap, subst, ◌∙◌, arith, ◌⊎◌, true}
+use Rattle.std.proofs.Common.{◌≡◌, ℕ, zero, suc, ◌+◌, ◌<◌, ◌≤◌, Bool, List, [], ◌∷◌, ◌++◌, length, min, inl, inr, ⊎_elim, refl, sym, ap, subst, ◌∙◌, arith, ◌⊎◌, true}
 use Rattle.std.proofs.lemmas.Bool.{cases_lt}
 use mathlib.Core.Option.{some-ne-none, some-injective}
 use Rattle.hybrid_time.specs.declared.times.Timestamp.{Timestamp}
-use Rattle.coarse_lists.specs.declared.collections.Collection.{Collection}
 use Rattle.turn_facts.specs.Prefixes.{StartsWith, IsAt}
-use Rattle.turn_facts.proofs.Places.{at_some}
 use Rattle.seat_walks.specs.Walks.{Turned}
-use Rattle.journal_model.specs.declared.notes.Kind.TheVariants.{Tick, Look}
+use Rattle.journal_model.specs.declared.notes.Kind.TheVariants.{Tick}
 use Rattle.journal_model.specs.declared.notes.Note.{Note}
 use Rattle.journal_model.specs.Notes.{note_of, tick_of}
 use Rattle.journal_model.specs.Journals.{IsJournal, is_next}
 use Rattle.journal_model.specs.Walks.{IsEachFrom}
 use Rattle.journal_model.proofs.NoteLaws.{tick_of-snoc}
-use Rattle.journal_model.proofs.ViewLaws.{Goes, goes_on}
-use Rattle.call_model.specs.Turns.{stamp, Ticks, Seals}
-use Rattle.call_model.specs.Calls.{tick_left, AreTicks, AreSeals, LooksAt, AreLooks, least_from, least_tick}
+use Rattle.journal_model.proofs.ViewLaws.{goes_on}
+use Rattle.call_model.specs.Turns.{stamp, Ticks}
+use Rattle.call_model.specs.Calls.{tick_left, AreTicks, AreLooks, least_from, least_tick}
 
 -- ---- beginnings of journals
 
