@@ -38,6 +38,15 @@ module _ (B : Type 0) (collection : Collection) (least : ℕ) (old new : Rest) (
   next : AreJournals collection new
   next = phase_journals B collection least old new block rest ph
 
+  -- each number of a phase lies from the clock before to below the clock after
+  pub phase_within : Each (λ n. (old.clock ≤ n) × (n < new.clock)) (all_told block)
+  phase_within = each-flat_map (λ n. (old.clock ≤ n) × (n < new.clock)) (λ (line : Line). drawn line.answer) block
+      (all_from (λ (line : Line). Each (λ n. (old.clock ≤ n) × (n < new.clock)) (drawn line.answer)) block
+      (λ line h. ⊎_elim (λ (refused : IsRefused line.asked line.answer). refused_numbers (λ n. (old.clock ≤ n) × (n < new.clock)) line.asked line.answer refused)
+      (λ (d : LineDone collection least old new line).
+      each_told (λ n. (old.clock ≤ n) × (n < new.clock)) collection d.by line.number d.mine d.request.what line.answer d.steps d.call d.within)
+      (done.lines line h)))
+
   -- no number of a phase is below the first of the least moment
   pub phase_timely : Each (λ n. least ≤ n) (all_told block)
   phase_timely = each-flat_map (λ n. least ≤ n) (λ (line : Line). drawn line.answer) block

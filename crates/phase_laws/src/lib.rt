@@ -6,7 +6,7 @@
 
 mod laws;
 
-pub use crate::laws::{runs_are_legal, runs_are_timely, runs_go_on};
+pub use crate::laws::{a_phase_tells, runs_are_legal, runs_are_timely, runs_go_on};
 
 #[cfg(test)]
 mod tests;

@@ -38,17 +38,13 @@ use Rattle.view_laws.specs.Wholes.{IsOfChannel, AreOfChannelsFrom, AreOfChannels
 use Rattle.view_laws.proofs.Wholes.{channels_scan}
 use Rattle.call_model.specs.Turns.{Looks}
 use Rattle.call_model.specs.Calls.{plan_of, tick_left, LooksAt, AreLooks, least_tick, log_before, FindsHits, FindsRow, IsCall}
+use Rattle.call_model.proofs.LookLogs.{look_log}
 use Rattle.phase_model.specs.Rests.{Rest, AreJournals}
 use Rattle.phase_order.proofs.Places.{in_at, at_in}
 use Rattle.phase_order.proofs.Ticks.{journal_front, least_at}
 use Rattle.phase_order.proofs.Lines.{Settled}
 use Rattle.phase_order.proofs.Slots.{all_journals}
 use Rattle.phase_logs.proofs.Channels.{logs_of, rest_of_channels, rest_logs, whole_whole}
-
--- a look writes nothing into the log
-look_log : (by line guarantee : ℕ) (wait : Bool) (before notes : List Note) (numbers : List ℕ) → Looks by line guarantee wait before notes numbers → log_of notes ≡ []
-look_log by line guarantee wait before notes numbers (inl c) = ap log_of c.noted
-look_log by line guarantee wait before notes numbers (inr c) = ap log_of c.noted
 
 -- the log at the end is that which the look found, and entries above its tick
 pub record LaterLog (log found : List Entry) (tick : ℕ) : Type 0 where
