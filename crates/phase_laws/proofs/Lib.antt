@@ -3,3 +3,4 @@ pub mod Facts
 pub mod Meeting
 pub mod Begun
 pub mod Going
+pub mod Worked

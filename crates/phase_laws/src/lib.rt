@@ -4,8 +4,10 @@
 //! what it printed is legal: whole with its end, and stopped after each meet. Nothing here runs.
 #![tactic(auto)]
 
+mod examples;
 mod laws;
 
+pub use crate::examples::a_small_run;
 pub use crate::laws::{a_phase_tells, runs_are_legal, runs_are_timely, runs_go_on};
 
 #[cfg(test)]
