@@ -1,12 +1,11 @@
 -- The small run keeps what phases and the end owe.
-use Rattle.std.proofs.Common.{◌≡◌, ◌≢◌, ◌⊎◌, ℕ, zero, suc, ◌+◌, ◌<◌, ◌≤◌, Bool, Option, Some, None, List, [], ◌∷◌, ◌++◌, length, map, All, inl, inr, refl, sym, ap, subst, ◌∙◌, arith, subst₂, ⊎_elim, is_some, false}
+use Rattle.std.proofs.Common.{◌≡◌, ◌≢◌, ℕ, zero, suc, ◌+◌, ◌<◌, ◌≤◌, Bool, Option, Some, List, [], ◌∷◌, map, All, inl, inr, refl, sym, ap, subst, ◌∙◌, arith, subst₂, ⊎_elim, is_some, false}
 use Rattle.std.specs.FinMap as fin
 use Rattle.std.specs.Ordering.{int_cmp}
-use Rattle.std.specs.List.{AllByRecursion as Each}
 use Rattle.std.proofs.lemmas.List.Elements.{All-cons, All-nil}
 use mathlib.Core.Option.{some-injective, some-ne-none}
 use Rattle.atomic_table.specs.Seated.{TableId}
-use Rattle.turn_facts.specs.Counts.{count, Among, NoneTwice, total}
+use Rattle.turn_facts.specs.Counts.{count, Among, total}
 use Rattle.turn_facts.specs.Notes.{times, IsOwn}
 use Rattle.turn_facts.specs.Prefixes.{StartsWith, IsAt}
 use Rattle.turn_facts.proofs.Counts.{count-nil, count-here, count-else}
@@ -16,17 +15,15 @@ use Rattle.turn_facts.proofs.Prefixes.{starts_all}
 use Rattle.turn_table.specs.Knowledge.{at_slot}
 use Rattle.turn_table.specs.Seats.{Table, SeatView}
 use Rattle.seat_walks.specs.Walks.{Turned, Step, Lift, Took, IsAbove, IsTurn, found, after, Walks, Walked}
-use Rattle.seat_walks.specs.Gathers.{number_in}
 use Rattle.seat_walks.specs.Closes.{Stands, Closed}
 use Rattle.seat_walks.proofs.Turning.{own_note}
 use Rattle.seat_walks.proofs.Walking.{walked, only_one}
-use Rattle.log_model.specs.Logs.{Rows, rows_of}
+use Rattle.log_model.specs.Logs.{Rows}
 use Rattle.log_model.specs.declared.logs.Write.TheVariants as writes
 use Rattle.log_model.proofs.LogLaws.{rows_of-after}
 use Rattle.request_lines.specs.declared.requests.Ask.TheVariants as asks
 use Rattle.coarse_lists.specs.declared.collections.Collection.{Collection}
 use Rattle.coarse_lists.specs.Collections.{IsInRange}
-use Rattle.legal_output.specs.Lines.{Asked, Given, Finish, Line}
 use Rattle.legal_output.specs.Legal.{told_of, IsLegal}
 use Rattle.legal_output.specs.Outputs.{start_of}
 use Rattle.journal_model.specs.declared.notes.Note.{Note}
@@ -36,13 +33,12 @@ use Rattle.journal_model.proofs.RunLaws.{append_sound, raise_sound}
 use Rattle.journal_model.proofs.PlaceLaws.{start_sound}
 use Rattle.call_model.specs.Turns.{by_of, time_of}
 use Rattle.call_model.specs.Calls.{channel_at}
-use Rattle.call_model.specs.Walks.{Did, Serves, IsServed, Ran}
-use Rattle.phase_model.specs.Rests.{Rest, IsKept, AreKept, new_rest}
+use Rattle.call_model.specs.Walks.{Did, Serves}
+use Rattle.phase_model.specs.Rests.{AreKept, new_rest}
 use Rattle.phase_model.specs.Phases.{Worked, IsPhase}
-use Rattle.phase_model.specs.Meets.{MeetsIn, IsEnd, Meets, meet_tick}
+use Rattle.phase_model.specs.Meets.{MeetsIn, IsEnd, meet_tick}
 use Rattle.phase_order.proofs.Steps.{among_here, among_none}
 use Rattle.phase_laws.specs.Examples.{one_channel, first_row, insert_line, put_note, written_rest, ended_rest, counted_once, end_line}
-use Rattle.phase_laws.specs.Runs.{HasRun}
 use Rattle.phase_laws.proofs.Begun.{new_run}
 use Rattle.phase_laws.proofs.Going.{is_whole}
 
@@ -57,7 +53,7 @@ module _ (vector : List Bool) (collection : Collection) where
   ended_kept : AreKept one (ended_rest vector)
   ended_kept zero below =
       let s : IsSound (channel_at one 0) (record { notes = put_note vector ∷ meet_tick 0 2 ∷ []; floor = 0 }) =
-          append_sound (channel_at one 0) (record { notes = put_note vector ∷ []; floor = 0 }) (meet_tick 0 2) (kept zero below).sound refl in
+      append_sound (channel_at one 0) (record { notes = put_note vector ∷ []; floor = 0 }) (meet_tick 0 2) (kept zero below).sound refl in
       record { sound = raise_sound (channel_at one 0) (record { notes = put_note vector ∷ meet_tick 0 2 ∷ []; floor = 0 }) 2 s (omega arith) (omega arith); keys = (refl, tt) }
   ended_kept (suc k) below = absurd (omega arith)
 

@@ -1,5 +1,5 @@
 -- A small run: one caller, one channel, one insert, and the end.
-use Rattle.std.specs.Prelude.{ℕ, pos, Bool, List, [], ◌∷◌, Option, Some}
+use Rattle.std.specs.Prelude.{pos, Bool, List, [], ◌∷◌, Some}
 use Rattle.row_types.specs.declared.rows.Row.{Row}
 use Rattle.coarse_lists.specs.declared.collections.Collection.{Collection}
 use Rattle.answer_lines.specs.declared.answers.Wrote.TheVariants.{Inserted}

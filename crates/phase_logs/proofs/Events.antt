@@ -154,9 +154,6 @@ only_in [] k seal at = absurd (some-ne-none seal (sym at))
 only_in (first ∷ seals) zero seal at = inl (ap seal_event (sym (some-injective first seal at)))
 only_in (first ∷ seals) (suc k) seal at = only_in seals k seal at
 
-no_write_event : (channels k : ℕ) (ts : ℕ) (what : Wrote) (e : Event) → IsIn e (write_event channels k [] (Some (record { ts = ts; replies = what ∷ [] })) ++ []) → ⊥
-no_write_event channels k ts what e h = h
-
 -- the events of a line that changes `changes`
 abbrev events_with : ℕ → ℕ → List Write → Answer → List Event
 events_with channels k changes answer = write_event channels k changes (written_of answer) ++ map seal_event (only_at (seals_of answer) k)

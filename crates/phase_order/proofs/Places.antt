@@ -4,7 +4,7 @@ use mathlib.Core.Option.{some, some-injective, some-ne-none}
 use Rattle.turn_facts.specs.Notes.{of}
 use Rattle.turn_facts.specs.Prefixes.{IsAt}
 use Rattle.turn_facts.proofs.Places.{at_below, at_get}
-use Rattle.turn_facts.proofs.Strangers.{in_own, own_in}
+use Rattle.turn_facts.proofs.Strangers.{in_own}
 use Rattle.journal_model.specs.Lists.{IsIn}
 
 module _ {X : Type 0} where
@@ -25,6 +25,3 @@ module _ {X : Type 0} where
 module _ {N : Type 0} (number : N → ℕ) where
   pub in_own_notes : (l : List N) (x : N) → IsIn x l → IsIn x (of number (number x) l)
   in_own_notes l x h = let r = in_at x l h in let q = in_own number l r.0 x r.1 in at_in x (of number (number x) l) q.0 q.1
-
-  pub own_notes_in : (n : ℕ) (l : List N) (x : N) → IsIn x (of number n l) → IsIn x l
-  own_notes_in n l x h = let r = in_at x (of number n l) h in let q = own_in number n l r.0 x r.1 in at_in x l q.0 q.1

@@ -1,22 +1,15 @@
 -- Turns, notes and numbers among the steps of a seat.
-use Rattle.std.proofs.Common.{◌≡◌, ◌⊎◌, ℕ, ◌+◌, ◌<◌, Bool, true, false, cond, ◌==◌, List, [], ◌∷◌, ◌++◌, length, Option, inl, inr, ⊎_elim, refl, sym, ap, subst, ◌∙◌, append_assoc, arith, eq-eqb, eqb-true}
+use Rattle.std.proofs.Common.{◌≡◌, ℕ, ◌+◌, ◌<◌, Bool, true, false, cond, ◌==◌, List, [], ◌∷◌, ◌++◌, length, Option, inl, inr, ⊎_elim, refl, sym, ap, subst, ◌∙◌, append_assoc, arith, eqb-true}
 use Rattle.std.proofs.lemmas.List.{length-set, get_or-set_same}
 use Rattle.turn_facts.specs.Counts.{count, Among}
 use Rattle.turn_facts.specs.Notes.{times}
 use Rattle.turn_facts.proofs.Counts.{count-nil, count-here, count-append}
-use Rattle.turn_facts.proofs.Places.{same_or}
 use Rattle.turn_table.specs.Seats.{SeatView}
 use Rattle.seat_walks.specs.Walks.{Turned, Step, Draw, Lift, Took, after, IsTurn, IsStep, Walks, drawn_in, notes_in, all_drawn, all_notes}
 use Rattle.journal_model.specs.Lists.{IsIn}
-use Rattle.journal_model.proofs.ListLaws.{in_left, in_right, in_cases}
+use Rattle.journal_model.proofs.ListLaws.{in_cases}
 
 -- ---- numbers
-
-pub among-append : (x : ℕ) (l m : List ℕ) → Among x (l ++ m) → Among x l ⊎ Among x m
-among-append x l m a = let c : count x (l ++ m) ≡ count x l + count x m = count-append x l m in elim (same_or (count x l) 0) [
-  | inl none ↦ inr (omega arith)
-  | inr some ↦ inl (omega arith)
-]
 
 pub among_left : (x : ℕ) (l m : List ℕ) → Among x l → Among x (l ++ m)
 among_left x l m a = let c : count x (l ++ m) ≡ count x l + count x m = count-append x l m in omega arith
@@ -68,15 +61,6 @@ module _ {N : Type 0} where
   pub of_turn : (k : ℕ) (xs : List (Step N)) (note : N) → IsIn note (all_notes k xs) → OfTurn k xs note
   of_turn k [] note h = absurd h
   of_turn k (x ∷ xs) note h = ⊎_elim (λ l. of_step k x xs note l) (λ r. of_turn_more k x xs note (of_turn k xs note r)) (in_cases note (notes_in k x) (all_notes k xs) h)
-
-  noted_there : (k : ℕ) (t : Turned N) (note : N) → t.slot ≡ k → IsIn note t.notes → IsIn note (notes_in k (Took t))
-  noted_there k t note is h = subst (λ (b : Bool). IsIn note (cond b t.notes [])) (sym (eq-eqb t.slot k is)) h
-
-  -- and the notes of a turn are of the steps
-  pub turn_notes : (k : ℕ) (xs : List (Step N)) (t : Turned N) (note : N) → IsIn (Took t) xs → t.slot ≡ k → IsIn note t.notes → IsIn note (all_notes k xs)
-  turn_notes k [] t note taken is h = absurd taken
-  turn_notes k (x ∷ xs) t note (inl p) is h = in_left note (notes_in k x) (all_notes k xs) (subst (λ (z : Step N). IsIn note (notes_in k z)) p (noted_there k t note is h))
-  turn_notes k (x ∷ xs) t note (inr taken) is h = in_right note (notes_in k x) (all_notes k xs) (turn_notes k xs t note taken is h)
 
 -- a turn as some seat took it: what it drew is above all that it found
 pub record WasTaken {N : Type 0} (time : N → Option ℕ) (slots : ℕ) (t : Turned N) : Type 0 where

@@ -1,4 +1,4 @@
-use Rattle.std.proofs.Common.{ℕ, ◌<◌, ◌≤◌, arith}
+use Rattle.std.proofs.Common.{◌≤◌, arith}
 use Rattle.legal_output.specs.Printed.{all_drawn}
 use Rattle.phase_order.proofs.Lines.{phase_done, differ_once}
 use Rattle.phase_order.proofs.Kept.{phase_journals}
