@@ -1,0 +1,3 @@
+pub mod LookLogs
+pub mod Rounds
+pub mod Serving

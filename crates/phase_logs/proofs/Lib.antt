@@ -1,0 +1,15 @@
+pub mod Lists
+pub mod Standing
+pub mod Replies
+pub mod Origins
+pub mod Entries
+pub mod Strict
+pub mod Growing
+pub mod SealTurns
+pub mod Events
+pub mod Tails
+pub mod Seals
+pub mod Channels
+pub mod Shown
+pub mod Metrics
+pub mod Forms

@@ -1,0 +1,4 @@
+pub mod Sums
+pub mod Lives
+pub mod Counted
+pub mod Kept

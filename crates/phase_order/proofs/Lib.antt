@@ -1,0 +1,11 @@
+pub mod Places
+pub mod Steps
+pub mod Stamps
+pub mod Drawn
+pub mod Served
+pub mod Lines
+pub mod Ticks
+pub mod Called
+pub mod Slots
+pub mod Callers
+pub mod Kept
