@@ -1,0 +1,10 @@
+use Rattle.std.proofs.Common.{◌*◌}
+use Rattle.phase_model.specs.Phases.{Minds}
+use Rattle.shard_calls.specs.Fronts.{Spends}
+use Rattle.phase_run.proofs.callers.tick_rounds.Given as goal
+
+abbrev pub invariant-rounds : goal.invariant-rounds
+invariant-rounds g l = record {
+  minds : Minds l.initial.seat l.seat;
+  spends : Spends (l.round * 20) l.initial.seat l.seat;
+}
