@@ -10,6 +10,7 @@ use Rattle.turn_facts.proofs.Places.{same_or, at_below, at_some, at_get, at_map,
 use Rattle.turn_table.specs.Knowledge.{at_slot}
 use Rattle.coarse_lists.specs.declared.collections.Collection.{Collection}
 use Rattle.answer_lines.specs.declared.answers.MeetReply.{MeetReply}
+use Rattle.hybrid_time.specs.declared.times.Timestamp.{Timestamp}
 use Rattle.log_model.specs.declared.logs.Entry.{Entry}
 use Rattle.log_model.specs.Places.{Placed}
 use Rattle.view_laws.specs.Wholes.{IsOfChannel}
@@ -113,7 +114,7 @@ counts_more ts k shards a counts old new at is c adds =
       let e : total_met part ts (take (k + 1) shards) ≡ total_met part ts (take k shards) + part (counts_of a.channel (met_notes ts a)) = ap (total_met part ts) more ∙ total_append part ts (take k shards) a in
       let p : part counts ≡ part (counts_of a.channel (met_notes ts a)) = ap part is in omega arith in
     record {
-      ts_is = ap (λ t. t.0) adds.ts ∙ c.ts_is;
+      ts_is = ap (λ (t : Timestamp). t.0) adds.ts ∙ c.ts_is;
       live = one (λ x. x.live) old.live new.live c.live adds.live;
       tail = one (λ x. x.tail) old.tail new.tail c.tail adds.tail;
       waiting = one (λ x. x.waiting) old.waiting new.waiting c.waiting adds.waiting;
@@ -184,13 +185,13 @@ module _ (ts : ℕ) (before after : List ChannelShard) (m : MetUpTo ts (length b
   many = sym (length-map before base_of) ∙ bases.many
 
   -- what is known of a channel
-  record Known (k : ℕ) : Type 0 where
-    a : ChannelShard
-    b : ChannelShard
-    was : IsAt before k a
-    is : IsAt after k b
-    met : IsMet ts a b
-    base : base_of a ≡ base_at collection floor k
+  pub record Known (k : ℕ) : Type 0 where
+    pub a : ChannelShard
+    pub b : ChannelShard
+    pub was : IsAt before k a
+    pub is : IsAt after k b
+    pub met : IsMet ts a b
+    pub base : base_of a ≡ base_at collection floor k
 
   known : (k : ℕ) → k < collection.channels → Known k
   known k below =
@@ -275,7 +276,9 @@ module _ (ts : ℕ) (before after : List ChannelShard) (m : MetUpTo ts (length b
 
     pub meets : Meets collection least old new counted
     meets =
-        let is : counted.ts.0 ≡ ts = c.ts_is in record {
+        let is : counted.ts.0 ≡ ts = c.ts_is in
+        let clock : old.clock ≤ ts = above in
+        let first : least ≤ ts = early in record {
           above = omega arith;
           not_early = omega arith;
           later = omega arith;

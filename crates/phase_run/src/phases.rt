@@ -1,6 +1,6 @@
 //! A phase: callers and tickers on threads, with seats that are split off, and joined at the end.
 
-ghost use Rattle.std.specs.Prelude.{◌≡◌, ℕ, ◌+◌, ◌*◌, ◌^◌, ◌<◌, ◌≤◌, [], List, All, map, length, slice_index_or, vec_capacity};
+ghost use Rattle.std.specs.Prelude.{◌≡◌, ℕ, ◌+◌, ◌*◌, ◌^◌, ◌<◌, ◌≤◌, [], ◌++◌, List, Ok, All as Every, map, length, replicate, slice_index_or, vec_capacity, IfOk};
 ghost use Rattle.hybrid_time.specs.Times.{of_moment};
 ghost use Rattle.turn_facts.specs.Counts.{Among};
 ghost use Rattle.turn_facts.specs.Notes.{times};
@@ -8,14 +8,16 @@ ghost use Rattle.turn_facts.specs.Prefixes.{IsAt};
 ghost use Rattle.turn_table.specs.Seats.{first_seat};
 ghost use Rattle.coarse_lists.specs.declared.collections.Collection.{Collection};
 ghost use Rattle.legal_output.specs.Lines.{Line};
-ghost use Rattle.seat_walks.specs.Gathers.{Parted, Gathered, IsBack};
-ghost use Rattle.phase_model.specs.Rests.{Rest};
+ghost use Rattle.seat_walks.specs.Gathers.{Gathered, IsBack};
+ghost use Rattle.phase_model.specs.Rests.{Rest, IsKept};
 ghost use Rattle.phase_model.specs.Phases.{IsPhase};
 ghost use Rattle.shard_core.specs.Shards.{ChannelShard, ChannelBase, base_of};
 ghost use Rattle.call_model.specs.Turns.{by_of, time_of};
 ghost use Rattle.shard_calls.specs.Fronts.{notes_of, AreShards, AreBases, IsReady};
+ghost use Rattle.phase_run.specs.declared.jobs.Task.TheVariants.{Ticker};
+ghost use Rattle.phase_run.specs.declared.works.Stop.TheVariants.{All};
 ghost use Rattle.phase_run.specs.Jobs.{IsSet, HasWorked};
-ghost use Rattle.phase_run.specs.Phases.{MayRun, IsRoles, ran_rest, AreLines, IsRestOf, seat_in, plan_in, done_in, IsPlanned};
+ghost use Rattle.phase_run.specs.Phases.{MayRun, AreFew, AreLines, IsRestOf, ran_rest, seat_in, plan_by, dones_of, SetOut};
 
 use crate::jobs::{Job, Task, run_all};
 use crate::works::{Done, PhaseEnd, Roles, Stop, Work};
@@ -30,15 +32,20 @@ use std::sync::Wait;
 use std::thread::Threads;
 use turn_table::Seat;
 
-// How many numbers a seat that is split off may draw.
-const SHARE: u64 = 1 << 30;
-
-// What a seat is to do, before it has one.
+/// What a seat is to do, before it has one.
 #[derive(Drop)]
 pub(crate) struct Plan {
     pub task: Task,
     pub mine: Timestamp,
     pub requests: Vec<(u32, Request)>,
+}
+
+// All that is needed before the table of turns is made.
+#[derive(Drop)]
+struct Prepared {
+    plans: Vec<Plan>,
+    jobs: Vec<Job>,
+    done: Vec<Done>,
 }
 
 /// Runs a phase: each work by a caller on a thread of its own, and tickers beside them, whatever order
@@ -58,16 +65,151 @@ pub fn run_phase<R: Threads + Wait + Sync, M: Moments + Sync, G: Gate + Sync>(
     requires clock { (1 ≤ clock) × (clock < 2 ^ 63 + 2 ^ 60) }
     requires above { (k : ℕ) (x : ChannelShard) (t : ℕ) → IsAt shards.items k x → Among t (times time_of x.state.notes) → t < clock }
     requires works { (collection : Collection) (floor : ℕ) → AreBases collection floor (map base_of shards.items) → MayRun collection clock works.items }
-    requires roles { IsRoles roles }
+    requires roles { AreFew roles }
     ensures phase { result.stop ≡ All → (collection : Collection) (floor : ℕ) (old : Rest) (block : List Line) → AreBases collection floor (map base_of shards.items)
         → IsRestOf old clock floor (map notes_of shards.items) works.items → AreLines works.items result.done.items block
         → IsPhase ChannelBase collection (of_moment (M.least moments.now)) old (ran_rest old result.clock (map notes_of result.shards.items) block) block }
     ensures bases { map base_of result.shards.items ≡ map base_of shards.items }
     ensures clock { clock ≤ result.clock }
 {
-    let none = |shards| PhaseEnd { shards, clock, done: Vec::new(alloc), stop: Stop::Memory };
-    let Ok(plans) = plan_all(alloc, works, roles) else {
-        return none(shards);
+    let Ok(prepared) = prepare(alloc, works, roles) else {
+        return not_begun(alloc, shards, clock);
     };
-    todo
+    match Front::new(alloc, shards, clock) {
+        Err((shards, _)) => not_begun(alloc, shards, clock),
+        Ok((front, seat)) => run(rt, alloc, front, seat, prepared, moments, gate),
+    }
+}
+
+fn not_begun(alloc: Global, shards: Vec<Shard>, clock: u64) -> PhaseEnd {
+    PhaseEnd {
+        shards,
+        clock,
+        done: Vec::new(alloc),
+        stop: Stop::Memory,
+    }
+}
+
+// Nothing that is made here takes memory later on.
+fn prepare(alloc: Global, works: Vec<Work>, roles: Roles) -> Result<Prepared, Memory> {
+    let seats = works.len() + roles.tickers as usize;
+    let jobs = Vec::with_capacity(alloc, seats)?;
+    let done = Vec::with_capacity(alloc, works.len())?;
+    let mut plans = Vec::with_capacity(alloc, seats)?;
+    plan_callers(works, &mut plans);
+    plan_tickers(alloc, roles, &mut plans);
+    Ok(Prepared { plans, jobs, done })
+}
+
+fn plan_callers(works: Vec<Work>, plans: &mut Vec<Plan>)
+    requires room { length plans.old.items + length works.items ≤ vec_capacity plans.old }
+    ensures { plans.new.items ≡ plans.old.items ++ map plan_by works.items }
+{
+    for work in works {
+        plans.push_reserved(Plan {
+            task: Task::Caller(work.caller),
+            mine: work.mine,
+            requests: work.requests,
+        });
+    }
+}
+
+fn plan_tickers(alloc: Global, roles: Roles, plans: &mut Vec<Plan>)
+    requires room { length plans.old.items + roles.tickers ≤ vec_capacity plans.old }
+{
+    for _ in 0..roles.tickers {
+        plans.push_reserved(Plan {
+            task: Task::Ticker(roles.rounds),
+            mine: Timestamp(0),
+            requests: Vec::new(alloc),
+        });
+    }
+}
+
+// Runs the plans with a table that was just made.
+fn run<R: Threads + Wait + Sync, M: Moments + Sync, G: Gate + Sync>(
+    rt: &R,
+    alloc: Global,
+    front: Front,
+    mut seat: Seat<Shard>,
+    prepared: Prepared,
+    moments: &M,
+    gate: &G,
+) -> PhaseEnd {
+    let Prepared {
+        plans,
+        mut jobs,
+        mut done,
+    } = prepared;
+    set_out(alloc, &front, &mut seat, plans, &mut jobs);
+    run_all(rt, alloc, &front, moments, gate, jobs.as_mut_slice());
+    let stop = gather(&front, &mut seat, jobs, &mut done);
+    let (shards, clock) = front.close(seat);
+    PhaseEnd {
+        shards,
+        clock,
+        done,
+        stop,
+    }
+}
+
+// Splits off a seat for each plan.
+fn set_out(
+    alloc: Global,
+    front: &Front,
+    seat: &mut Seat<Shard>,
+    plans: Vec<Plan>,
+    jobs: &mut Vec<Job>,
+)
+    requires seat { IsReady front.now.table (length plans.items * (2 ^ 30 + 1) + 2 ^ 31) seat.old }
+    requires none { jobs.old.items ≡ [] }
+    requires room { length plans.items ≤ vec_capacity jobs.old }
+    ensures set { SetOut plans.items seat.old jobs.new.items seat.new }
+{
+    for plan in plans {
+        let other = front.turns().split(seat, 1 << 30);
+        jobs.push_reserved(Job {
+            seat: other,
+            task: plan.task,
+            mine: plan.mine,
+            requests: plan.requests,
+            answers: Vec::new(alloc),
+            done: Ok(()),
+        });
+    }
+}
+
+// Joins the seats of all jobs, and keeps what the callers did.
+fn gather(front: &Front, seat: &mut Seat<Shard>, jobs: Vec<Job>, done: &mut Vec<Done>) -> Stop
+    requires seat { IsReady front.now.table 0 seat.old }
+    requires jobs { Every (λ job. IsBack front.now.table (length seat.old.seen) job.seat) jobs.items }
+    requires none { done.old.items ≡ [] }
+    requires room { length (dones_of jobs.items) ≤ vec_capacity done.old }
+    ensures seat { Gathered by_of seat.old (map seat_in jobs.items) seat.new }
+    ensures done { done.new.items ≡ dones_of jobs.items }
+    ensures stop { result ≡ All → Every (λ job. job.done ≡ Ok tt) jobs.items }
+{
+    let mut stop = Stop::All;
+    for job in jobs {
+        let Job {
+            seat: other,
+            task,
+            mine,
+            requests: _,
+            answers,
+            done: whole,
+        } = job;
+        front.turns().join(seat, other);
+        if let Task::Caller(caller) = task {
+            done.push_reserved(Done {
+                caller,
+                mine,
+                answers,
+            });
+        }
+        if whole.is_err() {
+            stop = Stop::Memory;
+        }
+    }
+    stop
 }

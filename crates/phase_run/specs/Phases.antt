@@ -1,0 +1,93 @@
+-- What a phase is asked, the seats that set out and come back, and what stands behind it.
+use Rattle.std.specs.Prelude.{◌≡◌, ℕ, ◌+◌, ◌*◌, ◌^◌, ◌<◌, ◌≤◌, List, [], ◌∷◌, ◌++◌, All, length, map, Option, Some, None}
+use Rattle.std.specs.List.{AllByRecursion as Each}
+use Rattle.coarse_lists.specs.declared.collections.Collection.{Collection}
+use Rattle.answer_lines.specs.declared.answers.Answer.{Answer}
+use Rattle.request_lines.specs.declared.requests.Request.{Request}
+use Rattle.legal_output.specs.Lines.{Line}
+use Rattle.legal_output.specs.Printed.{lines_of, write_behind}
+use Rattle.journal_model.specs.declared.notes.Note.{Note}
+use Rattle.turn_facts.specs.Prefixes.{IsAt}
+use Rattle.turn_table.specs.Seats.{SeatView}
+use Rattle.seat_walks.specs.Gathers.{Parted}
+use Rattle.shard_core.specs.Shards.{ChannelBase}
+use Rattle.phase_model.specs.Rests.{Rest}
+use Rattle.phase_model.specs.Phases.{IsLineOf}
+use Rattle.phase_run.specs.declared.jobs.Task.{Task}
+use Rattle.phase_run.specs.declared.jobs.Task.TheVariants.{Caller, Ticker}
+use Rattle.phase_run.specs.declared.jobs.Job.{Job}
+use Rattle.phase_run.specs.declared.phases.Plan.{Plan}
+use Rattle.phase_run.specs.declared.works.Work.{Work}
+use Rattle.phase_run.specs.declared.works.Done.{Done}
+use Rattle.phase_run.specs.declared.works.Roles.{Roles}
+use Rattle.phase_run.specs.Callers.{MayAsk, answered}
+
+-- what callers may be asked for, where the next number is `clock`
+pub record MayBeAsked (collection : Collection) (clock : ℕ) (work : Work) : Type 0 where
+  pub many : length work.requests.items ≤ 2 ^ 18
+  pub may : All (λ (request : ℕ × Request). MayAsk collection request.1.what) work.requests.items
+  pub mine_is : work.mine.0 < clock
+
+pub record MayRun (collection : Collection) (clock : ℕ) (works : List Work) : Type 0 where
+  pub callers : length works ≤ 16
+  pub each : All (MayBeAsked collection clock) works
+
+pub record AreFew (roles : Roles) : Type 0 where
+  pub few_tickers : roles.tickers ≤ 16
+  pub few_rounds : roles.rounds ≤ 1000
+
+-- ---- lines
+
+abbrev pub whose_work : Work → Option ℕ
+whose_work work = Some work.caller
+
+-- the lines of a phase: of each caller those that it was asked, with its answers, and beside these only lines that are refused
+pub record AreLines (works : List Work) (dones : List Done) (block : List Line) : Type 0 where
+  pub each : (i : ℕ) (w : Work) (d : Done) → IsAt works i w → IsAt dones i d → lines_of (Some w.caller) block ≡ answered w.requests.items d.answers.items
+  pub lines : Each (IsLineOf (map whose_work works)) block
+
+-- the journals before the phase, and each caller's last write
+pub record IsRestOf (rest : Rest) (clock floor : ℕ) (journals : List (List Note)) (works : List Work) : Type 0 where
+  pub clock_is : rest.clock ≡ clock
+  pub floor_is : rest.floor ≡ floor
+  pub journals_are : rest.journals ≡ journals
+  pub mine_is : (i : ℕ) (w : Work) → IsAt works i w → w.mine.0 ≡ rest.mine w.caller
+
+-- what stands behind the phase
+abbrev pub ran_rest : Rest → ℕ → List (List Note) → List Line → Rest
+ran_rest old clock journals block = record { clock = clock; met = old.met; floor = old.floor; mine = λ caller. write_behind (old.mine caller) (lines_of (Some caller) block); journals = journals }
+
+-- ---- seats
+
+abbrev pub seat_in : Job → SeatView Note ChannelBase
+seat_in job = job.seat
+
+abbrev pub plan_in : Job → Plan
+plan_in job = record { task = job.task; mine = job.mine; requests = job.requests }
+
+abbrev pub plan_by : Work → Plan
+plan_by work = record { task = Caller work.caller; mine = work.mine; requests = work.requests }
+
+abbrev pub whose_is : Task → Option ℕ
+whose_is (Caller number) = Some number
+whose_is (Ticker rounds) = None
+
+-- what a seat of a task did, where it is a caller's
+abbrev pub done_as : Task → Job → List Done
+done_as (Caller number) job = record { caller = number; mine = job.mine; answers = job.answers } ∷ []
+done_as (Ticker rounds) job = []
+
+abbrev pub dones_of : List Job → List Done
+dones_of [] = []
+dones_of (job ∷ jobs) = done_as job.task job ++ dones_of jobs
+
+-- a job that was just made
+pub record IsFresh (job : Job) : Type 0 where
+  pub none : job.answers.items ≡ []
+  pub allowance : job.seat.allowance ≡ 2 ^ 30
+
+-- seats were split off from s, which has become e, one for each plan
+pub record SetOut (plans : List Plan) (s : SeatView Note ChannelBase) (made : List Job) (e : SeatView Note ChannelBase) : Type 0 where
+  pub parted : Parted s (map seat_in made) e
+  pub planned : map plan_in made ≡ plans
+  pub fresh : All IsFresh made
