@@ -2,3 +2,4 @@ pub mod Meeting
 pub mod Serving
 pub mod Progress
 pub mod Phasing
+pub mod Crossing

@@ -4,11 +4,11 @@ use Rattle.std.specs.Prelude.{OnOk}
 use Rattle.std.proofs.Common.{drop, ◌≡◌, ◌⊎◌, inl, inr, ⊎_elim, ℕ, zero, suc, ◌+◌, ◌*◌, ◌^◌, ◌<◌, ◌≤◌, List, [], ◌∷◌, ◌++◌, length, map, get_or, All, Option, Some, None, Ok, refl, ap, sym, ◌∙◌, subst, arith, length-append}
 use Rattle.std.specs.List.{AllByRecursion as Each}
 use Rattle.std.specs.declared.result.Result.{Result}
-use Rattle.std.proofs.lemmas.List.{length-map}
+use Rattle.std.proofs.lemmas.List.{length-map, map-append, map-map}
 use mathlib.Core.Option.{some-injective, some-ne-none}
 use Rattle.row_types.specs.declared.allocation.Memory.{Memory}
 use Rattle.turn_facts.specs.Prefixes.{IsAt}
-use Rattle.turn_facts.proofs.Places.{at_get, at_below, at_some, at_map, at_map_back, at_one}
+use Rattle.turn_facts.proofs.Places.{at_get, at_below, at_some, at_map, at_map_back, at_one, same_lists}
 use Rattle.turn_table.specs.Seats.{SeatView, first_seat}
 use Rattle.coarse_lists.specs.declared.collections.Collection.{Collection}
 use Rattle.answer_lines.specs.declared.answers.Answer.{Answer}
@@ -121,3 +121,81 @@ dones_at (x ∷ works) (y ∷ jobs) others same (suc i) w job at_w at =
     let task : y.task ≡ Caller x.caller = some-injective y.task (Caller x.caller) (ap (λ (l : List Task). get_elem? l 0) same) in
     let r = dones_at works jobs others (ap (drop 1) same) i w job at_w at in
     (r.0, subst (λ (t : Task). IsAt (done_as t y ++ dones_of jobs) (suc i) r.0) (sym task) r.1, r.2)
+
+-- the work of a caller's seat
+caller_place : (works : List Work) (jobs : List Job) (others : List Task) → map task_in jobs ≡ map task_by works ++ others → ((j : ℕ) (t : Task) → IsAt others j t → whose_is t ≡ None) → (i number : ℕ) (job : Job) → IsAt jobs i job → whose_is job.task ≡ Some number
+    → (w : Work) × IsAt works i w × (w.caller ≡ number)
+caller_place [] jobs others same none i number job at who =
+    let none_here : whose_is job.task ≡ None = none i job.task (subst (λ (l : List Task). IsAt l i job.task) same (at_map task_in jobs i job at)) in absurd (let z : ⊥ = cc in z)
+caller_place (x ∷ works) [] others same none i number job at who = absurd (some-ne-none job (sym at))
+caller_place (x ∷ works) (y ∷ jobs) others same none zero number job at who =
+    let task : y.task ≡ Caller x.caller = some-injective y.task (Caller x.caller) (ap (λ (l : List Task). get_elem? l 0) same) in
+    let is : y ≡ job = at_one (y ∷ jobs) 0 y job refl at in
+    (x, refl, some-injective x.caller number (sym (ap whose_is task) ∙ ap (λ (j : Job). whose_is j.task) is ∙ who))
+caller_place (x ∷ works) (y ∷ jobs) others same none (suc i) number job at who = caller_place works jobs others (ap (drop 1) same) none i number job at who
+
+-- ---- the phase
+
+module _ (front : FrontView) (least : ℕ) (s0 s1 : SeatView Note ChannelBase) (plans : List Plan) (made run : List Job) (o : SetOut plans s0 made s1) (first : s0 ≡ first_seat front.table s0.seen) (long : length run ≡ length made)
+    (did : (i : ℕ) (d : Job) → i < length made → HasWorked front least (get_or made i d) (get_or run i d)) (e : SeatView Note ChannelBase) (g : Gathered by_of s1 (map seat_in run) e) (new : List (List Note)) (last : ℕ) (l : IsLast by_of time_of e new last)
+    (works : List Work) (others : List Task) (tasks : map task_in made ≡ map task_by works ++ others) (none : (j : ℕ) (t : Task) → IsAt others j t → whose_is t ≡ None)
+    (asked : (i : ℕ) (w : Work) (a : Job) → IsAt works i w → IsAt made i a → (a.requests.items ≡ w.requests.items) × (a.mine ≡ w.mine))
+    (all : All (λ (job : Job). job.done ≡ Ok tt) run) (old : Rest) (floor : ℕ) (dones : List Done) (dones_are : dones ≡ dones_of run) (block : List Line) (lines : AreLines works dones block) (rest : IsRestOf old front.table.first floor s0.seen works)
+    (kept : AreKept front.collection (ran_rest old last new block)) where
+  abbrev whose_in : Job → Option ℕ
+  whose_in job = whose_is job.task
+
+  run_tasks : map task_in run ≡ map task_by works ++ others
+  run_tasks = same_lists (map task_in run) (map task_in made) (length-map run task_in ∙ long ∙ sym (length-map made task_in))
+      (λ i t u at_t at_u.
+        let y = at_map_back task_in run i t at_t in
+        let x = at_map_back task_in made i u at_u in
+        sym y.2 ∙ (did_at front least s0 s1 plans made run o first long did i x.0 y.0 x.1 y.1).task ∙ x.2)
+      ∙ tasks
+
+  of_caller : (i number : ℕ) (x y : Job) → IsAt made i x → IsAt run i y → whose_is x.task ≡ Some number → (x.mine.0 ≡ old.mine number) × (lines_of (Some number) block ≡ answered x.requests.items y.answers.items)
+  of_caller i number x y at_x at_y who =
+      let w = caller_place works made others tasks none i number x at_x who in
+      let a = asked i w.0 x w.1 at_x in
+      let d = dones_at works run others run_tasks i w.0 y w.1 at_y in
+      let block_is = lines.each i w.0 d.0 w.1 (subst (λ (ds : List Done). IsAt ds i d.0) (sym dones_are) d.1) in
+      (ap (λ m. m.0) a.1 ∙ rest.mine_is i w.0 w.1 ∙ ap old.mine w.2,
+        ap (λ (n : ℕ). lines_of (Some n) block) (sym w.2) ∙ block_is ∙ ap (λ rs. answered rs d.0.answers.items) (sym a.0) ∙ ap (λ as. answered x.requests.items as.items) d.2)
+
+  worked_at : (i : ℕ) (who : Option ℕ) (a p : SeatView Note ChannelBase) → IsAt (map whose_in made) i who → IsAt (map seat_in made) i a → IsAt (map seat_in run) i p → WorkedIn front.collection least old.mine block who a p
+  worked_at i who a p at_w at_a at_p =
+      let v = at_map_back whose_in made i who at_w in
+      let x = at_map_back seat_in made i a at_a in
+      let y = at_map_back seat_in run i p at_p in
+      let same : v.0 ≡ x.0 = at_one made i v.0 x.0 v.1 x.1 in
+      let of : whose_is x.0.task ≡ who = sym (ap whose_in same) ∙ v.2 in
+      let h = did_at front least s0 s1 plans made run o first long did i x.0 y.0 x.1 y.1 in
+      let done : y.0.done ≡ Ok tt = subst (λ (job : Job). job.done ≡ Ok tt) (at_get run i y.0 y.0 y.1) (all i y.0 (at_below run i y.0 y.1)) in
+      subst (λ (u : Option ℕ). WorkedIn front.collection least old.mine block u a p) of
+      (subst (λ (u : SeatView Note ChannelBase). WorkedIn front.collection least old.mine block (whose_is x.0.task) u p) x.2
+      (subst (λ (u : SeatView Note ChannelBase). WorkedIn front.collection least old.mine block (whose_is x.0.task) x.0.seat u) y.2
+      (worked_in front.collection least x.0.mine.0 old.mine block x.0.task x.0.seat x.0.requests.items y.0.answers.items y.0.done y.0.seat done (λ number who. of_caller i number x.0 y.0 x.1 y.1 who) h.worked)))
+
+  has_seat : (caller : Option ℕ) → HasSeat (map whose_work works) caller → HasSeat (map whose_in made) caller
+  has_seat None h = absurd h
+  has_seat (Some number) h =
+      subst (IsIn (Some number)) (sym whose_are) (in_left (Some number) (map whose_work works) (map whose_is others) h)
+    where
+      whose_are : map whose_in made ≡ map whose_work works ++ map whose_is others
+      whose_are = sym (map-map made task_in whose_is) ∙ ap (map whose_is) tasks ∙ map-append whose_is (map task_by works) others ∙ ap (λ (m : List (Option ℕ)). m ++ map whose_is others) (map-map works task_by whose_is)
+
+  pub phase : IsPhase ChannelBase front.collection least old (ran_rest old last new block) block
+  phase = record {
+    whose = map whose_in made;
+    starts = map seat_in made;
+    ends = map seat_in run;
+    closed = subst (λ (n : ℕ). Closed by_of time_of n last old.journals new (map seat_in made) (map seat_in run)) (sym rest.clock_is)
+        (subst (λ (js : List (List Note)). Closed by_of time_of front.table.first last js new (map seat_in made) (map seat_in run)) (sym rest.journals_are) (ended front least s0 s1 plans made run o first long did e g new last l));
+    seats = (length-map made whose_in ∙ sym long ∙ sym (length-map run seat_in), length-map made seat_in ∙ sym long ∙ sym (length-map run seat_in));
+    worked = worked_at;
+    lines = each_implied (IsLineOf (map whose_work works)) (IsLineOf (map whose_in made)) (λ line h. ⊎_elim (λ (r : IsRefused line.asked line.answer). inl r) (λ (s : HasSeat (map whose_work works) (caller_of line.asked)). inr (has_seat (caller_of line.asked) s)) h) block lines.lines;
+    mine = λ caller. refl;
+    met = refl;
+    floor = refl;
+    kept = kept;
+  }
