@@ -1,6 +1,6 @@
 -- What a phase is asked, the seats that set out and come back, and what stands behind it.
-use Rattle.std.specs.Prelude.{◌≡◌, ℕ, ◌+◌, ◌*◌, ◌^◌, ◌<◌, ◌≤◌, List, [], ◌∷◌, ◌++◌, All, length, map, Option, Some, None}
-use Rattle.std.specs.List.{AllByRecursion as Each}
+use Rattle.std.specs.Prelude.{◌≡◌, ℕ, ◌+◌, ◌*◌, ◌^◌, ◌<◌, ◌≤◌, is_some, vec_capacity, List, [], ◌∷◌, ◌++◌, All, length, map, Option, Some, None}
+use Rattle.std.specs.List.{AllByRecursion as Each, count_by}
 use Rattle.coarse_lists.specs.declared.collections.Collection.{Collection}
 use Rattle.answer_lines.specs.declared.answers.Answer.{Answer}
 use Rattle.request_lines.specs.declared.requests.Request.{Request}
@@ -17,10 +17,13 @@ use Rattle.phase_run.specs.declared.jobs.Task.{Task}
 use Rattle.phase_run.specs.declared.jobs.Task.TheVariants.{Caller, Ticker}
 use Rattle.phase_run.specs.declared.jobs.Job.{Job}
 use Rattle.phase_run.specs.declared.phases.Plan.{Plan}
+use Rattle.phase_run.specs.declared.phases.Prepared.{Prepared}
 use Rattle.phase_run.specs.declared.works.Work.{Work}
 use Rattle.phase_run.specs.declared.works.Done.{Done}
 use Rattle.phase_run.specs.declared.works.Roles.{Roles}
+use Rattle.shard_calls.specs.Fronts.{FrontView}
 use Rattle.phase_run.specs.Callers.{MayAsk, answered}
+use Rattle.phase_run.specs.Jobs.{draws_of}
 
 -- what callers may be asked for, where the next number is `clock`
 pub record MayBeAsked (collection : Collection) (clock : ℕ) (work : Work) : Type 0 where
@@ -80,6 +83,39 @@ done_as (Ticker rounds) job = []
 abbrev pub dones_of : List Job → List Done
 dones_of [] = []
 dones_of (job ∷ jobs) = done_as job.task job ++ dones_of jobs
+
+-- ---- plans
+
+-- a plan that a seat with an allowance of 2^30 may take up
+pub record IsPlan (front : FrontView) (plan : Plan) : Type 0 where
+  pub few : draws_of plan.task plan.requests.items ≤ 2 ^ 30
+  pub may : All (λ (request : ℕ × Request). MayAsk front.collection request.1.what) plan.requests.items
+  pub mine_is : plan.mine.0 < front.table.first
+
+-- a plan of the background
+abbrev pub IsIdle : Plan → Type 0
+IsIdle plan = whose_is plan.task ≡ None
+
+-- a ticker's plan
+pub record IsTicker (rounds : ℕ) (plan : Plan) : Type 0 where
+  pub task : plan.task ≡ Ticker rounds
+  pub none : plan.requests.items ≡ []
+  pub mine_is : plan.mine.0 ≡ 0
+
+-- how many of the plans are callers'
+abbrev pub callers_in : List Plan → ℕ
+callers_in plans = count_by (λ plan. is_some (whose_is plan.task)) plans
+
+-- the plans of works, and those of tickers behind them; there is room for a job each and for what each caller did
+pub record ArePlans (works : List Work) (roles : Roles) (prepared : Prepared) : Type 0 where
+  pub others : List Plan
+  pub plans : prepared.plans.items ≡ map plan_by works ++ others
+  pub many : length others ≡ roles.tickers
+  pub tickers : All (IsTicker roles.rounds) others
+  pub none : (prepared.jobs.items ≡ []) × (prepared.done.items ≡ [])
+  pub room : (length prepared.plans.items ≤ vec_capacity prepared.jobs) × (length works ≤ vec_capacity prepared.done)
+
+-- ---- jobs
 
 -- a job that was just made
 pub record IsFresh (job : Job) : Type 0 where

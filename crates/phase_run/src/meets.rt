@@ -54,7 +54,7 @@ fn meet_channel(alloc: Global, shard: &mut Shard, ts: Timestamp) -> Result<Count
     ensures met { IfOk result (λ _. IsMet ts.0 shard.old shard.new) }
     ensures counts { IfOk result (λ counts. counts_told counts ≡ counts_of shard.old.channel (met_notes ts.0 shard.old)) }
 {
-    let _floor = shard.floor();
+    let _ = shard.floor();
     shard.reserve(alloc, 1)?;
     shard.tick(0, 0, ts);
     shard.set_floor(ts);
@@ -63,13 +63,13 @@ fn meet_channel(alloc: Global, shard: &mut Shard, ts: Timestamp) -> Result<Count
     Ok(counts)
 }
 
-// What a shard keeps of its journal; this does nothing.
-fn tell_kept(shard: &Shard)
+/// What a shard keeps of its journal; this does nothing.
+pub(crate) fn tell_kept(shard: &Shard)
     ensures sound { IsSound shard.now.channel shard.now.state }
     ensures keys { AreKeysIn shard.now.collection.channels shard.now.channel.number shard.now.state.notes }
 {
-    let _floor = shard.floor();
-    let _channel = shard.channel();
+    let _ = shard.floor();
+    let _ = shard.channel();
 }
 
 // The counts with those of one channel more.

@@ -1,6 +1,6 @@
 //! A phase: callers and tickers on threads, with seats that are split off, and joined at the end.
 
-ghost use Rattle.std.specs.Prelude.{◌≡◌, ℕ, ◌+◌, ◌*◌, ◌^◌, ◌<◌, ◌≤◌, [], ◌++◌, List, Ok, All as Every, map, length, replicate, slice_index_or, vec_capacity, IfOk};
+ghost use Rattle.std.specs.Prelude.{◌≡◌, ℕ, ◌+◌, ◌*◌, ◌^◌, ◌<◌, ◌≤◌, [], ◌++◌, List, Ok, All as Every, map, length, slice_index_or, vec_capacity, IfOk};
 ghost use Rattle.hybrid_time.specs.Times.{of_moment};
 ghost use Rattle.turn_facts.specs.Counts.{Among};
 ghost use Rattle.turn_facts.specs.Notes.{times};
@@ -9,17 +9,19 @@ ghost use Rattle.turn_table.specs.Seats.{first_seat};
 ghost use Rattle.coarse_lists.specs.declared.collections.Collection.{Collection};
 ghost use Rattle.legal_output.specs.Lines.{Line};
 ghost use Rattle.seat_walks.specs.Gathers.{Gathered, IsBack};
-ghost use Rattle.phase_model.specs.Rests.{Rest, IsKept};
+ghost use Rattle.phase_model.specs.Rests.{Rest};
 ghost use Rattle.phase_model.specs.Phases.{IsPhase};
 ghost use Rattle.shard_core.specs.Shards.{ChannelShard, ChannelBase, base_of};
 ghost use Rattle.call_model.specs.Turns.{by_of, time_of};
 ghost use Rattle.shard_calls.specs.Fronts.{notes_of, AreShards, AreBases, IsReady};
-ghost use Rattle.phase_run.specs.declared.jobs.Task.TheVariants.{Ticker};
 ghost use Rattle.phase_run.specs.declared.works.Stop.TheVariants.{All};
+ghost use Rattle.journal_model.specs.Runs.{IsSound};
+ghost use Rattle.shard_core.specs.Keys.{AreKeysIn};
 ghost use Rattle.phase_run.specs.Jobs.{IsSet, HasWorked};
-ghost use Rattle.phase_run.specs.Phases.{MayRun, AreFew, AreLines, IsRestOf, ran_rest, seat_in, plan_by, dones_of, SetOut};
+ghost use Rattle.phase_run.specs.Phases.{MayRun, AreFew, AreLines, IsRestOf, ran_rest, seat_in, plan_by, callers_in, dones_of, IsPlan, IsIdle, IsTicker, ArePlans, SetOut};
 
 use crate::jobs::{Job, Task, run_all};
+use crate::meets::tell_kept;
 use crate::works::{Done, PhaseEnd, Roles, Stop, Work};
 use hybrid_time::Timestamp;
 use manu_edge::{Gate, Moments};
@@ -91,7 +93,10 @@ fn not_begun(alloc: Global, shards: Vec<Shard>, clock: u64) -> PhaseEnd {
 }
 
 // Nothing that is made here takes memory later on.
-fn prepare(alloc: Global, works: Vec<Work>, roles: Roles) -> Result<Prepared, Memory> {
+fn prepare(alloc: Global, works: Vec<Work>, roles: Roles) -> Result<Prepared, Memory>
+    requires few { (length works.items ≤ 16) × AreFew roles }
+    ensures { IfOk result (ArePlans works.items roles) }
+{
     let seats = works.len() + roles.tickers as usize;
     let jobs = Vec::with_capacity(alloc, seats)?;
     let done = Vec::with_capacity(alloc, works.len())?;
@@ -102,8 +107,10 @@ fn prepare(alloc: Global, works: Vec<Work>, roles: Roles) -> Result<Prepared, Me
 }
 
 fn plan_callers(works: Vec<Work>, plans: &mut Vec<Plan>)
-    requires room { length plans.old.items + length works.items ≤ vec_capacity plans.old }
-    ensures { plans.new.items ≡ plans.old.items ++ map plan_by works.items }
+    requires none { plans.old.items ≡ [] }
+    requires room { length works.items ≤ vec_capacity plans.old }
+    ensures plans { plans.new.items ≡ map plan_by works.items }
+    ensures room { vec_capacity plans.new ≡ vec_capacity plans.old }
 {
     for work in works {
         plans.push_reserved(Plan {
@@ -116,8 +123,9 @@ fn plan_callers(works: Vec<Work>, plans: &mut Vec<Plan>)
 
 fn plan_tickers(alloc: Global, roles: Roles, plans: &mut Vec<Plan>)
     requires room { length plans.old.items + roles.tickers ≤ vec_capacity plans.old }
+    ensures { (others : List Plan) × (plans.new.items ≡ plans.old.items ++ others) × (length others ≡ roles.tickers) × Every (IsTicker roles.rounds) others }
 {
-    for _ in 0..roles.tickers {
+    for ticker in 0..roles.tickers {
         plans.push_reserved(Plan {
             task: Task::Ticker(roles.rounds),
             mine: Timestamp(0),
@@ -135,21 +143,57 @@ fn run<R: Threads + Wait + Sync, M: Moments + Sync, G: Gate + Sync>(
     prepared: Prepared,
     moments: &M,
     gate: &G,
-) -> PhaseEnd {
+) -> PhaseEnd
+    requires seat { seat ≡ first_seat front.table seat.seen }
+    requires plans { (length prepared.plans.items ≤ 32) × Every (IsPlan front) prepared.plans.items }
+    requires none { (prepared.jobs.items ≡ []) × (prepared.done.items ≡ []) }
+    requires room { (length prepared.plans.items ≤ vec_capacity prepared.jobs) × (callers_in prepared.plans.items ≤ vec_capacity prepared.done) }
+    ensures phase { result.stop ≡ All → (works : List Work) (others : List Plan) (old : Rest) (block : List Line) → prepared.plans.items ≡ map plan_by works ++ others → Every IsIdle others
+        → IsRestOf old front.table.first front.floor seat.seen works → AreLines works result.done.items block
+        → IsPhase ChannelBase front.collection (of_moment (M.least moments.now)) old (ran_rest old result.clock (map notes_of result.shards.items) block) block }
+    ensures bases { map base_of result.shards.items ≡ front.table.bases }
+    ensures clock { front.table.first ≤ result.clock }
+{
     let Prepared {
         plans,
         mut jobs,
         mut done,
     } = prepared;
     set_out(alloc, &front, &mut seat, plans, &mut jobs);
-    run_all(rt, alloc, &front, moments, gate, jobs.as_mut_slice());
+    run_set(rt, alloc, &front, moments, gate, &mut jobs);
     let stop = gather(&front, &mut seat, jobs, &mut done);
     let (shards, clock) = front.close(seat);
+    tell_all_kept(shards.as_slice());
     PhaseEnd {
         shards,
         clock,
         done,
         stop,
+    }
+}
+
+// Runs each job on a thread of its own.
+fn run_set<R: Threads + Wait + Sync, M: Moments + Sync, G: Gate + Sync>(
+    rt: &R,
+    alloc: Global,
+    front: &Front,
+    moments: &M,
+    gate: &G,
+    jobs: &mut Vec<Job>,
+)
+    requires jobs { Every (IsSet front.now) jobs.old.items }
+    ensures many { length jobs.new.items ≡ length jobs.old.items }
+    ensures each { (i : ℕ) (d : Job) → i < length jobs.old.items → HasWorked front.now (of_moment (M.least moments.now)) (slice_index_or jobs.old.items i d) (slice_index_or jobs.new.items i d) }
+{
+    run_all(rt, alloc, front, moments, gate, jobs.as_mut_slice());
+}
+
+// What shards keep of their journals; this does nothing.
+fn tell_all_kept(shards: &[Shard])
+    ensures { (k : ℕ) (x : ChannelShard) → IsAt shards.now k x → IsSound x.channel x.state × AreKeysIn x.collection.channels x.channel.number x.state.notes }
+{
+    for shard in shards {
+        tell_kept(shard);
     }
 }
 
