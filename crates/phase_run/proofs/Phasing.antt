@@ -10,6 +10,7 @@ use Rattle.row_types.specs.declared.allocation.Memory.{Memory}
 use Rattle.turn_facts.specs.Prefixes.{IsAt}
 use Rattle.turn_facts.proofs.Places.{at_get, at_below, at_some, at_map, at_map_back, at_one, same_lists}
 use Rattle.turn_table.specs.Seats.{SeatView, first_seat}
+use Rattle.hybrid_time.specs.declared.times.Timestamp.{Timestamp}
 use Rattle.coarse_lists.specs.declared.collections.Collection.{Collection}
 use Rattle.answer_lines.specs.declared.answers.Answer.{Answer}
 use Rattle.request_lines.specs.declared.requests.Request.{Request}
@@ -38,7 +39,7 @@ use Rattle.phase_run.specs.declared.works.Work.{Work}
 use Rattle.phase_run.specs.declared.works.Done.{Done}
 use Rattle.phase_run.specs.Callers.{answered}
 use Rattle.phase_run.specs.Jobs.{Asked, Worked, HasWorked}
-use Rattle.phase_run.specs.Phases.{AreLines, IsRestOf, ran_rest, whose_work, seat_in, plan_in, whose_is, done_as, dones_of, SetOut}
+use Rattle.phase_run.specs.Phases.{AreLines, IsRestOf, ran_rest, whose_work, seat_in, plan_in, whose_is, done_in, told_of, dones_of, SetOut}
 
 -- ---- steps
 
@@ -110,17 +111,16 @@ task_in job = job.task
 abbrev pub task_by : Work → Task
 task_by work = Caller work.caller
 
-dones_at : (works : List Work) (jobs : List Job) (others : List Task) → map task_in jobs ≡ map task_by works ++ others → (i : ℕ) (w : Work) (job : Job) → IsAt works i w → IsAt jobs i job → (d : Done) × IsAt (dones_of jobs) i d × (d.answers ≡ job.answers)
+dones_at : (works : List Work) (jobs : List Job) (others : List Task) → map task_in jobs ≡ map task_by works ++ others → (i : ℕ) (w : Work) (job : Job) → IsAt works i w → IsAt jobs i job → IsAt (dones_of jobs) i (done_in job)
 dones_at [] jobs others same i w job at_w at = absurd (some-ne-none w (sym at_w))
 dones_at (x ∷ works) [] others same i w job at_w at = absurd (some-ne-none job (sym at))
 dones_at (x ∷ works) (y ∷ jobs) others same zero w job at_w at =
     let task : y.task ≡ Caller x.caller = some-injective y.task (Caller x.caller) (ap (λ (l : List Task). get_elem? l 0) same) in
-    let is : y ≡ job = at_one (y ∷ jobs) 0 y job refl at in
-    (record { caller = x.caller; mine = y.mine; answers = y.answers }, subst (λ (t : Task). IsAt (done_as t y ++ dones_of jobs) 0 (record { caller = x.caller; mine = y.mine; answers = y.answers })) (sym task) refl, ap (λ (j : Job). j.answers) is)
+    subst (λ (j : Job). IsAt (told_of y.task (done_in y) ++ dones_of jobs) 0 (done_in j)) (at_one (y ∷ jobs) 0 y job refl at)
+    (subst (λ (t : Task). IsAt (told_of t (done_in y) ++ dones_of jobs) 0 (done_in y)) (sym task) refl)
 dones_at (x ∷ works) (y ∷ jobs) others same (suc i) w job at_w at =
     let task : y.task ≡ Caller x.caller = some-injective y.task (Caller x.caller) (ap (λ (l : List Task). get_elem? l 0) same) in
-    let r = dones_at works jobs others (ap (drop 1) same) i w job at_w at in
-    (r.0, subst (λ (t : Task). IsAt (done_as t y ++ dones_of jobs) (suc i) r.0) (sym task) r.1, r.2)
+    subst (λ (t : Task). IsAt (told_of t (done_in y) ++ dones_of jobs) (suc i) (done_in job)) (sym task) (dones_at works jobs others (ap (drop 1) same) i w job at_w at)
 
 -- the work of a caller's seat
 caller_place : (works : List Work) (jobs : List Job) (others : List Task) → map task_in jobs ≡ map task_by works ++ others → ((j : ℕ) (t : Task) → IsAt others j t → whose_is t ≡ None) → (i number : ℕ) (job : Job) → IsAt jobs i job → whose_is job.task ≡ Some number
@@ -157,10 +157,10 @@ module _ (front : FrontView) (least : ℕ) (s0 s1 : SeatView Note ChannelBase) (
   of_caller i number x y at_x at_y who =
       let w = caller_place works made others tasks none i number x at_x who in
       let a = asked i w.0 x w.1 at_x in
-      let d = dones_at works run others run_tasks i w.0 y w.1 at_y in
-      let block_is = lines.each i w.0 d.0 w.1 (subst (λ (ds : List Done). IsAt ds i d.0) (sym dones_are) d.1) in
-      (ap (λ m. m.0) a.1 ∙ rest.mine_is i w.0 w.1 ∙ ap old.mine w.2,
-        ap (λ (n : ℕ). lines_of (Some n) block) (sym w.2) ∙ block_is ∙ ap (λ rs. answered rs d.0.answers.items) (sym a.0) ∙ ap (λ as. answered x.requests.items as.items) d.2)
+      let d : IsAt (dones_of run) i (done_in y) = dones_at works run others run_tasks i w.0 y w.1 at_y in
+      let block_is : lines_of (Some w.0.caller) block ≡ answered w.0.requests.items y.answers.items = lines.each i w.0 (done_in y) w.1 (subst (λ (ds : List Done). IsAt ds i (done_in y)) (sym dones_are) d) in
+      (ap (λ (m : Timestamp). m.0) a.1 ∙ rest.mine_is i w.0 w.1 ∙ ap old.mine w.2,
+        ap (λ (n : ℕ). lines_of (Some n) block) (sym w.2) ∙ block_is ∙ ap (λ (rs : List (ℕ × Request)). answered rs y.answers.items) (sym a.0))
 
   worked_at : (i : ℕ) (who : Option ℕ) (a p : SeatView Note ChannelBase) → IsAt (map whose_in made) i who → IsAt (map seat_in made) i a → IsAt (map seat_in run) i p → WorkedIn front.collection least old.mine block who a p
   worked_at i who a p at_w at_a at_p =

@@ -75,14 +75,28 @@ abbrev pub whose_is : Task → Option ℕ
 whose_is (Caller number) = Some number
 whose_is (Ticker rounds) = None
 
--- what a seat of a task did, where it is a caller's
-abbrev pub done_as : Task → Job → List Done
-done_as (Caller number) job = record { caller = number; mine = job.mine; answers = job.answers } ∷ []
-done_as (Ticker rounds) job = []
+-- the caller that a gate sees
+abbrev pub caller_number : Task → ℕ
+caller_number (Caller number) = number
+caller_number (Ticker rounds) = 0
+
+abbrev pub done_in : Job → Done
+done_in job = record { caller = caller_number job.task; mine = job.mine; answers = job.answers }
+
+-- what was done is told of callers alone
+abbrev pub told_of : Task → Done → List Done
+told_of (Caller number) done = done ∷ []
+told_of (Ticker rounds) done = []
 
 abbrev pub dones_of : List Job → List Done
 dones_of [] = []
-dones_of (job ∷ jobs) = done_as job.task job ++ dones_of jobs
+dones_of (job ∷ jobs) = told_of job.task (done_in job) ++ dones_of jobs
+
+-- what a caller did of its work: the answers to its first requests, and its last write behind them
+pub record IsDoneOf (work : Work) (done : Done) : Type 0 where
+  pub caller_is : done.caller ≡ work.caller
+  pub mine_is : done.mine.0 ≡ write_behind work.mine.0 (answered work.requests.items done.answers.items)
+  pub numbers : map (λ (answer : ℕ × Answer). answer.0) done.answers.items ≡ map (λ (line : Line). line.number) (answered work.requests.items done.answers.items)
 
 -- ---- plans
 

@@ -9,6 +9,7 @@ ghost use Rattle.legal_output.specs.Printed.{write_behind};
 ghost use Rattle.shard_calls.specs.Fronts.{IsReady};
 ghost use Rattle.phase_run.specs.Callers.{MayAsk, IsKnown, answered};
 ghost use Rattle.phase_run.specs.Jobs.{draws_of, IsSet, Worked, HasWorked};
+ghost use Rattle.phase_run.specs.Phases.{caller_number};
 
 use crate::callers::{serve_all, tick_rounds};
 use answer_lines::Answer;
@@ -96,8 +97,10 @@ fn run_job<R: Wait, M: Moments, G: Gate>(
     );
 }
 
-// Whom the gate sees.
-fn caller_of(task: Task) -> u32 {
+/// The caller that a gate sees; 0 for work that no caller asked for.
+pub(crate) fn caller_of(task: Task) -> u32
+    ensures { result ≡ caller_number task }
+{
     match task {
         Task::Caller(number) => number,
         Task::Ticker(_) => 0,

@@ -18,9 +18,9 @@ ghost use Rattle.phase_run.specs.declared.works.Stop.TheVariants.{All};
 ghost use Rattle.journal_model.specs.Runs.{IsSound};
 ghost use Rattle.shard_core.specs.Keys.{AreKeysIn};
 ghost use Rattle.phase_run.specs.Jobs.{IsSet, HasWorked};
-ghost use Rattle.phase_run.specs.Phases.{MayRun, AreFew, AreLines, IsRestOf, ran_rest, seat_in, plan_by, callers_in, dones_of, IsPlan, IsIdle, IsTicker, ArePlans, SetOut};
+ghost use Rattle.phase_run.specs.Phases.{MayRun, AreFew, AreLines, IsRestOf, ran_rest, seat_in, plan_by, callers_in, told_of, dones_of, IsDoneOf, IsPlan, IsIdle, IsTicker, ArePlans, SetOut};
 
-use crate::jobs::{Job, Task, run_all};
+use crate::jobs::{Job, Task, caller_of, run_all};
 use crate::meets::tell_kept;
 use crate::works::{Done, PhaseEnd, Roles, Stop, Work};
 use hybrid_time::Timestamp;
@@ -71,6 +71,7 @@ pub fn run_phase<R: Threads + Wait + Sync, M: Moments + Sync, G: Gate + Sync>(
     ensures phase { result.stop ≡ All → (collection : Collection) (floor : ℕ) (old : Rest) (block : List Line) → AreBases collection floor (map base_of shards.items)
         → IsRestOf old clock floor (map notes_of shards.items) works.items → AreLines works.items result.done.items block
         → IsPhase ChannelBase collection (of_moment (M.least moments.now)) old (ran_rest old result.clock (map notes_of result.shards.items) block) block }
+    ensures done { result.stop ≡ All → (length result.done.items ≡ length works.items) × ((i : ℕ) (w : Work) (d : Done) → IsAt works.items i w → IsAt result.done.items i d → IsDoneOf w d) }
     ensures bases { map base_of result.shards.items ≡ map base_of shards.items }
     ensures clock { clock ≤ result.clock }
 {
@@ -151,6 +152,8 @@ fn run<R: Threads + Wait + Sync, M: Moments + Sync, G: Gate + Sync>(
     ensures phase { result.stop ≡ All → (works : List Work) (others : List Plan) (old : Rest) (block : List Line) → prepared.plans.items ≡ map plan_by works ++ others → Every IsIdle others
         → IsRestOf old front.table.first front.floor seat.seen works → AreLines works result.done.items block
         → IsPhase ChannelBase front.collection (of_moment (M.least moments.now)) old (ran_rest old result.clock (map notes_of result.shards.items) block) block }
+    ensures done { (works : List Work) (others : List Plan) → prepared.plans.items ≡ map plan_by works ++ others → Every IsIdle others
+        → (length result.done.items ≡ length works) × ((i : ℕ) (w : Work) (d : Done) → IsAt works i w → IsAt result.done.items i d → IsDoneOf w d) }
     ensures bases { map base_of result.shards.items ≡ front.table.bases }
     ensures clock { front.table.first ≤ result.clock }
 {
@@ -244,16 +247,34 @@ fn gather(front: &Front, seat: &mut Seat<Shard>, jobs: Vec<Job>, done: &mut Vec<
             done: whole,
         } = job;
         front.turns().join(seat, other);
-        if let Task::Caller(caller) = task {
-            done.push_reserved(Done {
-                caller,
-                mine,
-                answers,
-            });
-        }
-        if whole.is_err() {
-            stop = Stop::Memory;
-        }
+        let did = Done {
+            caller: caller_of(task),
+            mine,
+            answers,
+        };
+        tell(task, did, done);
+        stop = stop_behind(stop, &whole);
     }
     stop
+}
+
+// Keeps what a caller did.
+fn tell(task: Task, did: Done, done: &mut Vec<Done>)
+    requires room { length done.old.items + length (told_of task did) ≤ vec_capacity done.old }
+    ensures done { done.new.items ≡ done.old.items ++ told_of task did }
+    ensures room { vec_capacity done.new ≡ vec_capacity done.old }
+{
+    match task {
+        Task::Caller(_) => done.push_reserved(did),
+        Task::Ticker(_) => {}
+    }
+}
+
+fn stop_behind(stop: Stop, whole: &Result<(), Memory>) -> Stop
+    ensures { result ≡ All → (stop ≡ All) × (whole.now ≡ Ok tt) }
+{
+    match whole {
+        Ok(()) => stop,
+        Err(_) => Stop::Memory,
+    }
 }
