@@ -100,7 +100,7 @@ pub(crate) fn tick_rounds<R: Wait, M: Moments, G: Gate>(
     requires line { call.now.line ≡ 0 }
     ensures { Minds seat.old seat.new }
 {
-    'rounds: for round in 0..rounds {
+    'rounds: for _ in 0..rounds {
         tick_round(front, alloc, call, seat)?;
     }
     Ok(())

@@ -27,7 +27,7 @@ use std::thread::Threads;
 use turn_table::Seat;
 
 /// What a seat is for.
-#[derive(Debug, Clone, Copy, PartialEq, Eq, Drop)]
+#[derive(Debug, Clone, Copy, PartialEq, Eq)]
 pub(crate) enum Task {
     /// The lines of the caller with this number.
     Caller(u32),

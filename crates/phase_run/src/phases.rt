@@ -126,7 +126,7 @@ fn plan_tickers(alloc: Global, roles: Roles, plans: &mut Vec<Plan>)
     requires room { length plans.old.items + roles.tickers ≤ vec_capacity plans.old }
     ensures { (others : List Plan) × (plans.new.items ≡ plans.old.items ++ others) × (length others ≡ roles.tickers) × Every (IsTicker roles.rounds) others }
 {
-    for ticker in 0..roles.tickers {
+    for _ in 0..roles.tickers {
         plans.push_reserved(Plan {
             task: Task::Ticker(roles.rounds),
             mine: Timestamp(0),

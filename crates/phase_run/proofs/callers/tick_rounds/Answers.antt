@@ -8,7 +8,7 @@ rounds-init g c = record { minds = minds_none c.args.seat.now; spends = spends_n
 pub rounds-preserved : goal.rounds-preserved
 rounds-preserved g c = record {
   minds = minds_more c.args.seat.now c.rounds.seat c.tick_round.new.seat c.rounds.invariant.minds c.tick_round.ensures.minds;
-  spends = spends_more (c.rounds.round * 20) 20 ((c.rounds.round + 1) * 20) c.args.seat.now c.rounds.seat c.tick_round.new.seat c.rounds.invariant.spends c.tick_round.ensures.spends (omega arith);
+  spends = spends_more (c.rounds.counter * 20) 20 ((c.rounds.counter + 1) * 20) c.args.seat.now c.rounds.seat c.tick_round.new.seat c.rounds.invariant.spends c.tick_round.ensures.spends (omega arith);
 }
 
 pub returns-in_err-tick_round : goal.returns-in_err-tick_round

@@ -6,5 +6,5 @@ use Rattle.phase_run.proofs.callers.tick_rounds.Given as goal
 abbrev pub invariant-rounds : goal.invariant-rounds
 invariant-rounds g l = record {
   minds : Minds l.initial.seat l.seat;
-  spends : Spends (l.round * 20) l.initial.seat l.seat;
+  spends : Spends (l.counter * 20) l.initial.seat l.seat;
 }

@@ -1,0 +1,10 @@
+use Rattle.std.proofs.Common.{◌≡◌, ◌≤◌, length, map, vec_len, vec_capacity}
+use Rattle.phase_run.specs.Phases.{plan_by}
+use Rattle.phase_run.proofs.phases.plan_callers.Given as goal
+
+abbrev pub invariant-loop-work : goal.invariant-loop-work
+invariant-loop-work l = record {
+  plans : l.plans.items ≡ map plan_by l.yielded;
+  len : vec_len l.plans ≡ length l.yielded;
+  room : vec_capacity l.plans ≡ vec_capacity l.initial.plans;
+}
