@@ -1,4 +1,4 @@
-use Rattle.std.proofs.Common.{◌≡◌, ℕ, ◌<◌, List, length, take, get_or, refl, ap, subst, ◌∙◌, rules}
+use Rattle.std.proofs.Common.{◌≡◌, ℕ, ◌<◌, List, ◌≤◌, length, get_or, refl, subst, arith, rules}
 use Rattle.std.proofs.lemmas.List.{take_all}
 use Rattle.shard_core.specs.Shards.{ChannelShard}
 use Rattle.phase_run.specs.Meets.{AreCountsOf}
@@ -32,7 +32,7 @@ met_all c = subst (λ (n : ℕ). MetUpTo c.args.ts.0 n c.args.shards.now c.chann
 counts_all : (c : goal.Returns) → AreCountsOf c.args.ts.0 c.args.shards.now c.channels.counted
 counts_all c =
     let e : c.channels.k ≡ length c.args.shards.now = search rules in
-    subst (λ (l : List ChannelShard). AreCountsOf c.args.ts.0 l c.channels.counted) (ap (λ (n : ℕ). take n c.args.shards.now) e ∙ take_all c.args.shards.now) c.channels.invariant.counted
+    subst (λ (l : List ChannelShard). AreCountsOf c.args.ts.0 l c.channels.counted) (take_all c.channels.k c.args.shards.now (omega arith)) c.channels.invariant.counted
 
 pub returns : goal.returns
 returns c = record {
