@@ -13,7 +13,7 @@ pub meet_channel-requires : goal.meet_channel-requires
 meet_channel-requires c =
     let at : get_or c.channels.shards c.channels.k c.index_mut.result.now ≡ c.index_mut.result.now = search rules in
     let low : c.channels.k < length c.channels.shards = search rules in
-    c.requires c.channels.k c.index_mut.result.now (next_at c.args.ts.0 c.channels.k c.args.shards.now c.channels.shards c.index_mut.result.now c.channels.invariant.met low at)
+    record { below = c.requires.above c.channels.k c.index_mut.result.now (next_at c.args.ts.0 c.channels.k c.args.shards.now c.channels.shards c.index_mut.result.now c.channels.invariant.met low at) }
 
 pub channels-preserved : goal.channels-preserved
 channels-preserved c =
