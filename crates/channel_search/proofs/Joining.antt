@@ -1,6 +1,6 @@
 -- Rows of views that are offered one view after another.
-use Rattle.std.proofs.Common.{◌≡◌, ℕ, ℤ, zero, suc, ◌+◌, List, [], ◌∷◌, ◌++◌, map, take, slice_get, Option, Some, None, refl, sym, ap, ◌∙◌, absurd, add-one, append-nil, append_assoc}
-use Rattle.std.proofs.lemmas.Option.{none_some, some_same}
+use Rattle.std.proofs.Common.{◌≡◌, ℕ, ℤ, zero, suc, ◌+◌, List, [], ◌∷◌, ◌++◌, map, take, slice_get, Option, Some, None, refl, sym, ap, ◌∙◌, add-one, append-nil, append_assoc}
+use Rattle.flat_scan.proofs.MarkedRows.{none_some, some_same}
 use Rattle.std.specs.List.{AllByRecursion}
 use Rattle.row_types.specs.declared.hits.Hit.{Hit}
 use Rattle.row_types.specs.Hits.{least}
@@ -27,7 +27,7 @@ rows-next views i view e = rw add-one (one views i e)
     one (v ∷ views) (suc i) e = ap (λ l. rows_in v ++ l) (one views i e) ∙ sym (append_assoc (rows_in v) (rows_in_all (take i views)) (rows_in view))
 
 module _ (t : ℕ) (plan : Plan) (query : Query) where
-  seen : ChannelView → List Hit
+  abbrev seen : ChannelView → List Hit
   seen view = hits_seen t plan query (rows_in view)
 
   seen_in_all : (views : List ChannelView) → hits_seen t plan query (rows_in_all views) ≡ joined (map seen views)
