@@ -1,0 +1,5 @@
+pub mod Noted
+pub mod Changing
+pub mod Called
+pub mod Looking
+pub mod Plain
