@@ -8,6 +8,3 @@
 mod searches;
 
 pub use crate::searches::search;
-
-
-
