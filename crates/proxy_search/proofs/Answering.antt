@@ -63,10 +63,10 @@ module _ (front : FrontView) (line mine : ℕ) (level : Level) (wait : Bool) (no
     all = is.many;
     least = at ∙ least_same front 0 turns views is.shown;
     scanned =
-      all (channel_of front.collection.channels) (founds front turns views) (founds_shown front 0 turns views is.shown)
-          (subst (λ (n : ℕ). AllByRecursion (ServesAt n) (founds front turns views)) (sym at) (founds_serve_least front 0 turns views is.shown))
-          (founds_home front 0 turns views is.shown)
-      ∙ ap (λ (logs : List (List Entry)). scan (whole logs) ts.0 (plan_of front.collection) query) (founds_logs front s.number line guarantee.0 wait 0 0 turns views is.looks is.shown);
+        all (channel_of front.collection.channels) (founds front turns views) (founds_shown front 0 turns views is.shown)
+        (subst (λ (n : ℕ). AllByRecursion (ServesAt n) (founds front turns views)) (sym at) (founds_serve_least front 0 turns views is.shown))
+        (founds_home front 0 turns views is.shown)
+        ∙ ap (λ (logs : List (List Entry)). scan (whole logs) ts.0 (plan_of front.collection) query) (founds_logs front s.number line guarantee.0 wait 0 0 turns views is.looks is.shown);
   }
 
   pends : (query : Query) (turns : List (Turned Note)) (channel : ℕ) (tick : Timestamp) → EndsAt front s.number line guarantee.0 wait channel tick.0 turns → IsSearch query (answers.Pending now guarantee channel tick) (Draw now.0 ∷ map Took turns)
@@ -102,9 +102,11 @@ module _ (front : FrontView) (line mine : ℕ) (level : Level) (wait : Bool) (no
       → IfOk result (λ answer. IsOkAnd round (λ r. SaysHits front.collection query now guarantee r answer))
       → (xs : List (Step Note)) × Did s xs e × IfOk result (λ answer. IsSearch query answer xs)
   searched query round result looked h =
-      let turns : List (Turned Note) = looked.0 in
-      (Draw now.0 ∷ map Took turns, walks_append by_of time_of s m e (Draw now.0 ∷ []) (map Took turns) drew looked.1,
-        if_says query turns round result (subst (λ (n : ℕ). IfOk round (IsRound front n line guarantee.0 wait turns)) named looked.2) h)
+      let turns : List (Turned Note) = looked.0 in (
+        Draw now.0 ∷ map Took turns,
+        walks_append by_of time_of s m e (Draw now.0 ∷ []) (map Took turns) drew looked.1,
+        if_says query turns round result (subst (λ (n : ℕ). IfOk round (IsRound front n line guarantee.0 wait turns)) named looked.2) h,
+      )
 
   -- ---- gets
 

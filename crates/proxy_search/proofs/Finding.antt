@@ -29,7 +29,7 @@ pub looks_log : (by line guarantee : ℕ) (wait : Bool) (before notes : List Not
 looks_log by line guarantee wait before notes numbers l =
     log_of-append before notes
     ∙ ap (λ (log : List Entry). log_of before ++ log)
-        (⊎_elim (λ (a : LooksAtOnce by line guarantee wait before notes numbers). ap log_of a.noted) (λ (a : TicksAndLooks by line guarantee wait before notes numbers). ap log_of a.noted) l)
+    (⊎_elim (λ (a : LooksAtOnce by line guarantee wait before notes numbers). ap log_of a.noted) (λ (a : TicksAndLooks by line guarantee wait before notes numbers). ap log_of a.noted) l)
     ∙ append-nil (log_of before)
 
 module _ (channels k : ℕ) where
@@ -132,13 +132,15 @@ module _ (front : FrontView) where
   founds_serve ts k (t ∷ turns) [] a low high = absurd a
   founds_serve ts k (t ∷ turns) (v ∷ views) a low high =
       let floor : v.floor ≡ front.floor = a.0.floor in
-      let from : v.floor ≤ ts = omega arith in
-      (record {
-        exact = a.0.exact;
-        journal = subst IsJournal (sym (append-nil (t.before ++ t.notes))) a.0.sound.journal;
-        from_floor = from;
-        to_tick = high.0;
-      }, founds_serve ts (k + 1) turns views a.1 low high.1)
+      let from : v.floor ≤ ts = omega arith in (
+        record {
+          exact = a.0.exact;
+          journal = subst IsJournal (sym (append-nil (t.before ++ t.notes))) a.0.sound.journal;
+          from_floor = from;
+          to_tick = high.0;
+        },
+        founds_serve ts (k + 1) turns views a.1 low high.1,
+      )
 
   -- they serve the least of their ticks
   pub founds_serve_least : (k : ℕ) (turns : List (Turned Note)) (views : List ChannelView) → AreViewsAt front k turns views → AllByRecursion (ServesAt (least_in views)) (founds turns views)

@@ -98,12 +98,15 @@ module _ (front : FrontView) (line guarantee : ℕ) (wait : Bool) where
         let said : Looks m.number line guarantee wait t.before t.notes t.drawn × Gives (base_at front.collection front.floor channel) guarantee wait (t.before ++ t.notes) (looks.Served view) = l.3 in
         let many : length turns ≡ channel = w.many in
         let place : channel ≡ 0 + length turns = omega arith in
-        let at : LooksAt s.number line guarantee wait (0 + length turns) t = (l.2 ∙ place, subst (λ (n : ℕ). Looks n line guarantee wait t.before t.notes t.drawn) named said.0) in
-        (turns ++ t ∷ [], did_more s m e turns t so_far.1 l.1, record {
-          looks = looks_snoc s.number line guarantee wait 0 turns t w.looks at said.1.1;
-          many = length-append turns (t ∷ []) ∙ ap (λ (n : ℕ). n + 1) many;
-          shown = views_snoc front 0 turns views t view w.shown (subst (λ (n : ℕ). IsViewAt (base_at front.collection front.floor n) (t.before ++ t.notes) view) place said.1.0);
-        })
+        let at : LooksAt s.number line guarantee wait (0 + length turns) t = (l.2 ∙ place, subst (λ (n : ℕ). Looks n line guarantee wait t.before t.notes t.drawn) named said.0) in (
+          turns ++ t ∷ [],
+          did_more s m e turns t so_far.1 l.1,
+          record {
+            looks = looks_snoc s.number line guarantee wait 0 turns t w.looks at said.1.1;
+            many = length-append turns (t ∷ []) ∙ ap (λ (n : ℕ). n + 1) many;
+            shown = views_snoc front 0 turns views t view w.shown (subst (λ (n : ℕ). IsViewAt (base_at front.collection front.floor n) (t.before ++ t.notes) view) place said.1.0);
+          },
+        )
 
     pub ends_pending : (E : Type 0) (tick : Timestamp) → channel < front.collection.channels → LooksOnce {E = E} m e channel (Ok (looks.Pending tick))
         → (turns : List (Turned Note)) × Did s (map Took turns) e × EndsAt front s.number line guarantee wait channel tick.0 turns
@@ -111,16 +114,19 @@ module _ (front : FrontView) (line guarantee : ℕ) (wait : Bool) where
         let turns : List (Turned Note) = so_far.0 in
         let t : Turned Note = l.0 in
         let w : ServesFirst front s.number line guarantee wait channel turns views = so_far.2 in
-        let said : Looks m.number line guarantee wait t.before t.notes t.drawn × Gives (base_at front.collection front.floor channel) guarantee wait (t.before ++ t.notes) (looks.Pending tick) = l.3 in
-        (turns ++ t ∷ [], did_more s m e turns t so_far.1 l.1, record {
-          served = turns;
-          last = t;
-          only = refl;
-          looks = w.looks;
-          place = w.many;
-          within = within;
-          look = (l.2, subst (λ (n : ℕ). Looks n line guarantee wait t.before t.notes t.drawn) named said.0);
-          alone = said.1.0;
-          told = said.1.1;
-          below = said.1.2;
-        })
+        let said : Looks m.number line guarantee wait t.before t.notes t.drawn × Gives (base_at front.collection front.floor channel) guarantee wait (t.before ++ t.notes) (looks.Pending tick) = l.3 in (
+          turns ++ t ∷ [],
+          did_more s m e turns t so_far.1 l.1,
+          record {
+            served = turns;
+            last = t;
+            only = refl;
+            looks = w.looks;
+            place = w.many;
+            within = within;
+            look = (l.2, subst (λ (n : ℕ). Looks n line guarantee wait t.before t.notes t.drawn) named said.0);
+            alone = said.1.0;
+            told = said.1.1;
+            below = said.1.2;
+          },
+        )
