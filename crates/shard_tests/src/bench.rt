@@ -170,7 +170,12 @@ impl Bench {
     }
 
     /// Begins to move a segment from a home.
-    pub(crate) fn begin(&mut self, alloc: Global, segment: u64, from: Home) -> Result<(), MoveError> {
+    pub(crate) fn begin(
+        &mut self,
+        alloc: Global,
+        segment: u64,
+        from: Home,
+    ) -> Result<(), MoveError> {
         let moving = self.shard.begin_move(alloc, segment, from)?;
         match self.moves.push(moving) {
             Ok(()) => Ok(()),

@@ -200,6 +200,9 @@ fn looks_show_the_live_rows_of_the_log(rt: HostRuntime) -> Result<(), Fail> {
         loads,
         releases,
     } = pair.done;
-    assert!(rt; looks >= 80 && loads >= 30 && releases >= 10, "{looks} {loads} {releases}");
+    assert!(rt;
+        looks >= 80 && loads >= 30 && releases >= 10,
+        "{looks} {loads} {releases}"
+    );
     Ok(())
 }
