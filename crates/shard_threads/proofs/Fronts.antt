@@ -35,9 +35,9 @@ each_base collection u v (suc (suc k)) x at p q = absurd (some-ne-none x (sym at
 pub two_shards : (collection : Collection) (a b : ChannelShard) (xs : List ChannelShard) → xs ≡ a ∷ b ∷ [] → IsInRange collection → collection.channels ≡ 2
     → a.collection ≡ collection → a.channel ≡ record { number = 0; seal_rows = collection.seal_rows } → a.state ≡ record { notes = []; floor = 0 }
     → b.collection ≡ collection → b.channel ≡ record { number = 1; seal_rows = collection.seal_rows } → b.state ≡ record { notes = []; floor = 0 } → AreShards xs
-two_shards collection a b xs e range two ac an as bc bn bs =
-    let first : base_of a ≡ base_at collection 0 0 = base_is collection 0 a record { collection = ac; channel = an; state = as } in
-    let second : base_of b ≡ base_at collection 0 1 = base_is collection 1 b record { collection = bc; channel = bn; state = bs } in
+two_shards collection a b xs e range two a_of a_named a_rests b_of b_named b_rests =
+    let first : base_of a ≡ base_at collection 0 0 = base_is collection 0 a record { collection = a_of; channel = a_named; state = a_rests } in
+    let second : base_of b ≡ base_at collection 0 1 = base_is collection 1 b record { collection = b_of; channel = b_named; state = b_rests } in
     subst AreShards (sym e) record {
       collection = collection;
       floor = 0;
