@@ -3,3 +3,4 @@ pub mod Changing
 pub mod Called
 pub mod Looking
 pub mod Plain
+pub mod Stepping

@@ -13,3 +13,6 @@ mod writes;
 
 pub use crate::calls::Call;
 pub use crate::fronts::Front;
+
+#[cfg(test)]
+mod tests;
