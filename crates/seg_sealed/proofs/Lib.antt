@@ -4,3 +4,4 @@ pub mod LogLaws
 pub mod WordLaws
 pub mod MarkLaws
 pub mod SealLaws
+pub mod RunLaws
