@@ -1,0 +1,15 @@
+//! The merging of parts.
+//!
+//! [`merge`] makes one part of the rows of several that a floor leaves, by position and with their
+//! marks. The layer above relies on this: the part is what the definition of merging gives, and there
+//! is none exactly where no row is kept.
+#![tactic(auto)]
+
+mod joins;
+mod kept;
+mod marking;
+mod merging;
+mod rests;
+mod spans;
+
+pub use crate::merging::merge;
