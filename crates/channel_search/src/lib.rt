@@ -8,3 +8,6 @@
 mod searches;
 
 pub use crate::searches::search;
+
+#[cfg(test)]
+mod tests;
