@@ -9,7 +9,6 @@ mod callers;
 mod jobs;
 mod meets;
 mod phases;
-mod reads;
 mod requests;
 mod rounds;
 mod works;

@@ -11,11 +11,11 @@ ghost use Rattle.call_model.specs.Walks.{Did};
 ghost use Rattle.shard_calls.specs.Fronts.{IsReady, Spends};
 ghost use Rattle.phase_run.specs.Callers.{MayAsk, IsKnown};
 
-use crate::reads::{get, search};
 use crate::rounds::{seal_all, tick_all};
 use answer_lines::Answer;
 use hybrid_time::Timestamp;
 use manu_edge::{At, Gate, Moments};
+use proxy_search::{get, search};
 use request_lines::Ask;
 use row_types::Memory;
 use shard_calls::{Call, Front};

@@ -9,10 +9,11 @@ use Rattle.journal_model.specs.declared.notes.Kind.TheVariants.{Tick, Look}
 use Rattle.journal_model.specs.declared.notes.Note.{Note}
 use Rattle.journal_model.specs.Notes.{note_of, tick_of}
 use Rattle.journal_model.specs.Answers.{Reply, Served, Pending, look_reply, answer_at}
-use Rattle.journal_model.specs.Runs.{State}
+use Rattle.journal_model.specs.Runs.{State, IsSound}
 use Rattle.journal_model.specs.Views.{View, IsExact}
 use Rattle.journal_model.proofs.NoteLaws.{tick_of-snoc}
 use Rattle.channel_view.specs.Views.{ChannelView, view_in}
+use Rattle.shard_core.specs.Keys.{AreKeysIn}
 use Rattle.shard_core.specs.Shards.{ChannelShard, ChannelBase, Steps, base_of, looked_reply, IfServed, IsViewOf}
 use Rattle.shard_core.specs.declared.replies.Looked.{Looked}
 use Rattle.shard_core.specs.declared.replies.Looked.TheVariants as looks
@@ -80,17 +81,21 @@ module _ (line : ℕ) (guarantee : Timestamp) (wait : Bool) (s e : SeatView Note
     same_tick : Steps found new look → tick_of (before ++ (notes ++ look ∷ [])) ≡ tick_of found.state.notes
     same_tick step = ap tick_of (sym (after_look step).journal ∙ ap (λ (st : State). st.notes) step.state) ∙ tick_of-snoc found.state.notes look
 
-    pub served : (E : Type 0) (view : ChannelView) → Steps found new look → answer_at found.channel found.state.notes (Look guarantee) ≡ Served → IsViewOf found view → IsExact found.state.notes (view_in view) → IsLooked {E = E} (Ok (looks.Served view))
-    served E view step answer is exact =
+    pub served : (E : Type 0) (view : ChannelView) → Steps found new look → answer_at found.channel found.state.notes (Look guarantee) ≡ Served → IsViewOf found view → IsExact found.state.notes (view_in view)
+        → IsSound new.channel new.state → AreKeysIn new.collection.channels new.channel.number new.state.notes → IsLooked {E = E} (Ok (looks.Served view))
+    served E view step answer is exact sound keys =
         let all : new.state.notes ≡ before ++ (notes ++ look ∷ []) = (after_look step).journal in
         let behind : IsExact new.state.notes (view_in view) = subst (λ (l : List Note). IsExact l (view_in view)) (sym (ap (λ (st : State). st.notes) step.state)) (exact_look found.state.notes (view_in view) s.number line guarantee exact) in
         let tick : tick_of (before ++ (notes ++ look ∷ [])) ≡ tick_of found.state.notes = same_tick step in
         let high : guarantee.0 ≤ tick_of found.state.notes = leb-true guarantee.0 (tick_of found.state.notes) (reply_served (nat_le guarantee.0 (tick_of found.state.notes)) (tick_of found.state.notes) answer) in
+        let kept : base_of new ≡ base = (λ i. record { channel = step.channel i; collection = step.collection i; floor = (step.state i).floor }) ∙ same in
         let at : IsViewAt base (before ++ (notes ++ look ∷ [])) view = record {
           collection = is.collection ∙ ap (λ (b : ChannelBase). b.collection) same;
           channel = is.channel ∙ ap (λ (b : ChannelBase). b.channel.number) same;
           floor = ap (λ (v : View). v.floor) is.rows ∙ ap (λ (b : ChannelBase). b.floor) same;
           exact = subst (λ (l : List Note). IsExact l (view_in view)) all behind;
+          sound = subst (λ (l : List Note). IsSound base.channel (record { notes = l; floor = base.floor })) all (subst (λ (b : ChannelBase). IsSound b.channel (record { notes = new.state.notes; floor = b.floor })) kept sound);
+          keys = subst (λ (l : List Note). AreKeysIn base.collection.channels base.channel.number l) all (subst (λ (b : ChannelBase). AreKeysIn b.collection.channels b.channel.number new.state.notes) kept keys);
         } in
         (notes ++ look ∷ [], numbers, after_look step, (seen_look, (at, omega arith)))
 
@@ -104,8 +109,9 @@ module _ (line : ℕ) (guarantee : Timestamp) (wait : Bool) (s e : SeatView Note
         (notes ++ look ∷ [], numbers, after_look step, (seen_look, (rest, sym (tick ∙ is), omega arith)))
 
     pub looked_under : {E : Type 0} (result : Result Looked E) → OnOk result (Steps found new look) → IfOk result (λ looked. answer_at found.channel found.state.notes (Look guarantee) ≡ looked_reply looked) → IfOk result (λ looked. IfServed looked (IsViewOf found))
-        → IfOk result (λ looked. IfServed looked (λ view. IsExact found.state.notes (view_in view))) → OnErr result (new ≡ found) → IsLooked result
-    looked_under {E = E} (Ok (looks.Served view)) step answer is exact err = served E view step answer is exact
-    looked_under {E = E} (Ok (looks.Pending told)) step answer is exact err = pending E told step answer
-    looked_under {E = E} (Err failed) step answer is exact err =
+        → IfOk result (λ looked. IfServed looked (λ view. IsExact found.state.notes (view_in view))) → OnErr result (new ≡ found)
+        → IsSound new.channel new.state → AreKeysIn new.collection.channels new.channel.number new.state.notes → IsLooked result
+    looked_under {E = E} (Ok (looks.Served view)) step answer is exact err sound keys = served E view step answer is exact sound keys
+    looked_under {E = E} (Ok (looks.Pending told)) step answer is exact err sound keys = pending E told step answer
+    looked_under {E = E} (Err failed) step answer is exact err sound keys =
         (notes, numbers, subst (λ (v : ChannelShard). Puts by_of time_of s e before v.state.notes notes numbers) (sym err) p, breaks_off s.number line guarantee.0 wait before notes numbers up)

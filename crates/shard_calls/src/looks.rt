@@ -1,12 +1,18 @@
 //! Looks.
 
-ghost use Rattle.std.specs.Prelude.{◌≡◌, ℕ, ◌+◌, ◌<◌, ◌≤◌, ◌++◌, [], ◌∷◌, List, true, false, MatchResult};
+ghost use Rattle.std.specs.Prelude.{◌≡◌, ℕ, ◌+◌, ◌<◌, ◌≤◌, ◌++◌, [], ◌∷◌, List, true, false, MatchResult, IfOk, OnOk, OnErr};
 ghost use Rattle.turn_facts.specs.Counts.{Among};
 ghost use Rattle.turn_table.specs.Seats.{IsGiven};
 ghost use Rattle.seat_walks.specs.Walks.{Turned, Took, Puts};
 ghost use Rattle.journal_model.specs.declared.notes.Note.{Note};
-ghost use Rattle.journal_model.specs.Notes.{tick_of};
-ghost use Rattle.shard_core.specs.Shards.{base_of};
+ghost use Rattle.journal_model.specs.declared.notes.Kind.TheVariants.{Look};
+ghost use Rattle.journal_model.specs.Notes.{note_of, tick_of};
+ghost use Rattle.journal_model.specs.Answers.{answer_at};
+ghost use Rattle.journal_model.specs.Runs.{IsSound};
+ghost use Rattle.journal_model.specs.Views.{IsExact};
+ghost use Rattle.channel_view.specs.Views.{view_in};
+ghost use Rattle.shard_core.specs.Keys.{AreKeysIn};
+ghost use Rattle.shard_core.specs.Shards.{Steps, base_of, looked_reply, IfServed, IsViewOf};
 ghost use Rattle.call_model.specs.Turns.{by_of, time_of, Looks};
 ghost use Rattle.call_model.specs.Walks.{Did};
 ghost use Rattle.shard_calls.specs.Fronts.{base_at, IsReady, Spends};
@@ -79,7 +85,30 @@ fn look_under(
     turn.value_mut().reserve(alloc, 2)?;
     catch_up(turns, seat, turn, line, guarantee, wait);
     let by = seat.number();
-    turn.value_mut().look(alloc, by, line, guarantee)
+    look_sound(turn.value_mut(), alloc, by, line, guarantee)
+}
+
+// The look of the shard, with what the shard keeps of its journal.
+fn look_sound(
+    shard: &mut Shard,
+    alloc: Global,
+    by: u64,
+    line: u32,
+    guarantee: Timestamp,
+) -> Result<Looked, Memory>
+    requires { 1 ≤ shard.old.spare }
+    ensures step { OnOk result (Steps shard.old shard.new (note_of by line (Look guarantee))) }
+    ensures answer { IfOk result (λ looked. answer_at shard.old.channel shard.old.state.notes (Look guarantee) ≡ looked_reply looked) }
+    ensures view { IfOk result (λ looked. IfServed looked (IsViewOf shard.old)) }
+    ensures exact { IfOk result (λ looked. IfServed looked (λ view. IsExact shard.old.state.notes (view_in view))) }
+    ensures err { OnErr result (shard.new ≡ shard.old) }
+    ensures sound { IsSound shard.new.channel shard.new.state }
+    ensures keys { AreKeysIn shard.new.collection.channels shard.new.channel.number shard.new.state.notes }
+{
+    let looked = shard.look(alloc, by, line, guarantee);
+    let _floor = shard.floor();
+    let _channel = shard.channel();
+    looked
 }
 
 /// Ticks, where a look that waits finds the tick below its guarantee.

@@ -9,7 +9,7 @@ mod lookups;
 mod searches;
 
 pub use crate::lookups::find;
-pub use crate::searches::run;
+pub use crate::searches::{offer_all, run};
 
 #[cfg(test)]
 mod tests;

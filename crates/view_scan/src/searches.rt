@@ -54,8 +54,10 @@ pub fn run<L: Ledger>(
     Ok(gather.settle())
 }
 
-// Offers the rows of the tail and of all parts.
-fn offer_all<L: Ledger>(
+/// Offers the rows of the tail and of all parts that are visible at a timestamp and pass the filter to a
+/// list that is being filled; one step a row, and no memory. The query's vector has the dimension of the
+/// collection.
+pub fn offer_all<L: Ledger>(
     view: &View,
     ts: Timestamp,
     plan: &Plan,

@@ -40,7 +40,7 @@ returns-clause-step c =
     subst (λ (v : ChannelShard). Puts by_of time_of s e before v.state.notes up.0 up.1) there (subst (λ (l : List Note). Puts by_of time_of s e l c.catch_up.new.turn.value.state.notes up.0 up.1) start up.2) in
     let caught : CatchesUp s.number c.args.line c.args.guarantee.0 c.args.wait before up.0 up.1 = subst (λ (l : List Note). CatchesUp s.number c.args.line c.args.guarantee.0 c.args.wait l up.0 up.1) start up.3 in
     let named : c.number-by.result ≡ s.number = c.number-by.ensures ∙ ap (λ (u : SeatView Note ChannelBase). u.number) up.2.seat in
-    let step : OnOk c.look.result (Steps found c.look.new.self (note_of s.number c.args.line (Look c.args.guarantee))) =
-    subst (λ (n : ℕ). OnOk c.look.result (Steps found c.look.new.self (note_of n c.args.line (Look c.args.guarantee)))) named c.look.ensures.step in
-    looked_under c.args.line c.args.guarantee c.args.wait s e found c.look.new.self (base_of c.args.turn.now.value) before up.0 up.1 base puts caught
-    (λ w. subst (λ (v : ChannelShard). c.args.guarantee.0 ≤ tick_of v.state.notes) there (c.catch_up.ensures.reached w)) c.look.result step c.look.ensures.answer c.look.ensures.view c.look.ensures.exact c.look.ensures.err
+    let step : OnOk c.look_sound.result (Steps found c.look_sound.new.shard (note_of s.number c.args.line (Look c.args.guarantee))) =
+    subst (λ (n : ℕ). OnOk c.look_sound.result (Steps found c.look_sound.new.shard (note_of n c.args.line (Look c.args.guarantee)))) named c.look_sound.ensures.step in
+    looked_under c.args.line c.args.guarantee c.args.wait s e found c.look_sound.new.shard (base_of c.args.turn.now.value) before up.0 up.1 base puts caught
+    (λ w. subst (λ (v : ChannelShard). c.args.guarantee.0 ≤ tick_of v.state.notes) there (c.catch_up.ensures.reached w)) c.look_sound.result step c.look_sound.ensures.answer c.look_sound.ensures.view c.look_sound.ensures.exact c.look_sound.ensures.err c.look_sound.ensures.sound c.look_sound.ensures.keys

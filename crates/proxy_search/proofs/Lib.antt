@@ -1,0 +1,4 @@
+pub mod Stepping
+pub mod Finding
+pub mod Answering
+pub mod Naming
