@@ -19,7 +19,7 @@ use Rattle.view_laws.specs.Found.{hits_seen}
 use Rattle.view_laws.proofs.Seen as seen
 use Rattle.top_list.specs.Kept.{Kept, Offered, IsBehindAll, is_after}
 use Rattle.top_list.proofs.Fills.{Offered-none, Offered-more}
-use Rattle.flat_scan.specs.Bars.{is_past, AreAllPast}
+use Rattle.flat_scan.specs.Bars.{is_past, AreAllPast, IsFirstNear}
 use Rattle.flat_scan.specs.Rows.{AreDistances, no_row}
 use Rattle.flat_scan.proofs.MarkedRows.{take_next, shown-append}
 
@@ -123,3 +123,24 @@ past_next far hit from i d past all is that e j le lt = go (nat_lt j i) refl
         let least : i ≤ j = ltb-false j i f in
         let same : i ≡ j = omega arith in
         subst (λ n. is_past hit (far n) ≡ true) same (ap (is_past hit) (sym is) ∙ sym that ∙ e)
+
+-- rows that are too far, and rows behind them
+pub past_more : (far : ℕ → Distance) (hit : Option Hit) (from mid to : ℕ) → AreAllPast far hit from mid → AreAllPast far hit mid to → AreAllPast far hit from to
+past_more far hit from mid to front back j le lt = go (nat_lt j mid) refl
+  where
+    go : (b : Bool) → nat_lt j mid ≡ b → is_past hit (far j) ≡ true
+    go true f = front j le (ltb-true j mid f)
+    go false f = back j (ltb-false j mid f) lt
+
+-- the first near row behind rows that are too far is the first of all
+pub near_behind : (far : ℕ → Distance) (hit : Option Hit) (from mid to i : ℕ) (d : Distance) → from ≤ mid → AreAllPast far hit from mid → IsFirstNear far hit mid to i d → IsFirstNear far hit from to i d
+near_behind far hit from mid to i d low front first = record {
+  start = omega (arith, low, first.start);
+  within = first.within;
+  same = first.same;
+  before = past_more far hit from mid i front first.before;
+}
+
+-- the first near row of the rows in front is the first of all
+pub near_before : (far : ℕ → Distance) (hit : Option Hit) (from mid to i : ℕ) (d : Distance) → mid ≤ to → IsFirstNear far hit from mid i d → IsFirstNear far hit from to i d
+near_before far hit from mid to i d low first = record { start = first.start; within = omega (arith, low, first.within); same = first.same; before = first.before }

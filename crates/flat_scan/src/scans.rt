@@ -1,6 +1,6 @@
 //! The walk along rows that stand together.
 
-ghost use Rattle.std.specs.Prelude.{◌≡◌, ◌+◌, ◌<◌, ◌≤◌, ◌∷◌, [], length, map, Some, IfSome, MatchOption, slice_get};
+ghost use Rattle.std.specs.Prelude.{◌≡◌, ◌+◌, ◌*◌, ◌^◌, ◌<◌, ◌≤◌, ◌∷◌, [], length, map, Some, IfSome, MatchOption, slice_get};
 ghost use Rattle.std.specs.List.{AllByRecursion};
 ghost use Rattle.row_types.specs.Bits.{AreWordsOf};
 ghost use Rattle.row_types.specs.Hits.{least, distance_of};
@@ -153,7 +153,8 @@ struct Near {
 
 // The first row from a number on that is not too far, at a step for each row that is looked at. A
 // function of its own, and never part of another, so that nothing but the distance and the bar is in
-// the loop.
+// its loops: four rows a turn, since at a word or two a row the turns cost as much as the rows, and
+// then the rows that are left.
 #[inline(never)]
 fn next_near<D: Distances, L: Ledger>(
     far: &D,
@@ -168,8 +169,54 @@ fn next_near<D: Distances, L: Ledger>(
         (λ near. IsFirstNear (D.far far.now) bar.now.hit from to near.i near.distance) }
     ensures steps { MatchOption result (steps.new + from ≡ steps.old + to) (λ near. steps.new + from ≡ steps.old + near.i + 1) }
 {
-    'rows: for i in from..to {
+    let fours = (to - from) / 4;
+    match near_in_fours(far, from, fours, bar, steps) {
+        Some(near) => Some(near),
+        None => near_in(far, from + 4 * fours, (to - from) % 4, bar, steps),
+    }
+}
+
+// The first row that is not too far among four times as many rows from a number on.
+#[inline(always)]
+fn near_in_fours<D: Distances, L: Ledger>(
+    far: &D,
+    from: u32,
+    fours: u32,
+    bar: &Bar,
+    steps: &mut Steps<L>,
+) -> Option<Near>
+    requires few { from + 4 * fours < 2 ^ 32 }
+    requires there { from + 4 * fours ≤ D.count far.now }
+    ensures near { MatchOption result (AreAllPast (D.far far.now) bar.now.hit from (from + 4 * fours))
+        (λ near. IsFirstNear (D.far far.now) bar.now.hit from (from + 4 * fours) near.i near.distance) }
+    ensures steps { MatchOption result (steps.new ≡ steps.old + 4 * fours) (λ near. steps.new + from ≡ steps.old + near.i + 1) }
+{
+    'fours: for turn in 0..fours {
+        if let Some(near) = near_in(far, from + 4 * turn, 4, bar, steps) {
+            return Some(near);
+        }
+    }
+    None
+}
+
+// The first row that is not too far among as many rows from a number on.
+#[inline(always)]
+fn near_in<D: Distances, L: Ledger>(
+    far: &D,
+    from: u32,
+    count: u32,
+    bar: &Bar,
+    steps: &mut Steps<L>,
+) -> Option<Near>
+    requires few { from + count < 2 ^ 32 }
+    requires there { from + count ≤ D.count far.now }
+    ensures near { MatchOption result (AreAllPast (D.far far.now) bar.now.hit from (from + count))
+        (λ near. IsFirstNear (D.far far.now) bar.now.hit from (from + count) near.i near.distance) }
+    ensures steps { MatchOption result (steps.new ≡ steps.old + count) (λ near. steps.new + from ≡ steps.old + near.i + 1) }
+{
+    'rows: for j in 0..count {
         steps.tick();
+        let i = from + j;
         let distance = far.distance(i);
         if !bar.is_before(distance) {
             return Some(Near { i, distance });
