@@ -77,3 +77,6 @@ ticked_once line k x s e t did at ticks = ticked_in line k (x ∷ []) s e t did 
 
 pub ticked_idle : (line k : ℕ) (s e : SeatView Note ChannelBase) (t : Turned Note) → Did s (Took t ∷ []) e → t.slot ≡ k → IsIdle t.notes t.drawn → Ticked line k [] s e
 ticked_idle line k s e t did at idle = ticked_in line k [] s e t did at idle.none idle.undrawn
+
+pub one_more : (line k x : ℕ) (xs : List ℕ) (a b c : SeatView Note ChannelBase) (t : Turned Note) → Ticked line k xs a b → Did b (Took t ∷ []) c → t.slot ≡ k → Ticks b.number line x t.notes t.drawn → Ticked line k (xs ++ x ∷ []) a c
+one_more line k x xs a b c t before did at ticks = ticked_more line k xs (x ∷ []) a b c before (ticked_once line k x b c t did at ticks)

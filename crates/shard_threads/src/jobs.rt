@@ -84,7 +84,10 @@ pub fn run_all<R: Threads + Wait + Sync, G: Gate + Sync>(
     ensures { (i : ℕ) (d : Job) → i < length jobs.old → HasTicked (slice_index_or jobs.old i d) (slice_index_or jobs.new i d) }
 {
     let threads = jobs.len().max(1);
-    thread::for_each_mut(rt, jobs, threads, &|_, job| {
-        run_job(rt, alloc, front, gate, job)
-    });
+    thread::for_each_mut(
+        rt,
+        jobs,
+        threads,
+        &|_, job| { run_job(rt, alloc, front, gate, job) },
+    );
 }

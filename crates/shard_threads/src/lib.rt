@@ -4,6 +4,7 @@
 #![tactic(auto)]
 
 mod jobs;
+
 pub use crate::jobs::{Job, run_all};
 
 #[cfg(test)]
