@@ -72,7 +72,8 @@ fn run_job<R: Wait, G: Gate>(rt: &R, alloc: Global, front: &Front, gate: &G, job
 }
 
 /// Runs each job on a thread of its own. Of the notes of its own number on the job's channel, each seat has then
-/// seen those that it had and, behind them, a tick at each number that it was answered, in their order.
+/// seen those that it had and, behind them, a tick at each number that it drew, in their order; `done` tells whether
+/// it ticked as often as it was to, and then `answers` has those numbers.
 pub fn run_all<R: Threads + Wait + Sync, G: Gate + Sync>(
     rt: &R,
     alloc: Global,
