@@ -4,7 +4,7 @@ use Rattle.std.proofs.lemmas.List.{map-append}
 use Rattle.turn_facts.specs.Notes.{of}
 use Rattle.turn_table.specs.Knowledge.{at_slot}
 use Rattle.turn_table.specs.Seats.{Table, SeatView}
-use Rattle.seat_walks.specs.Walks.{Step, Turned, Took, Walked, all_notes}
+use Rattle.seat_walks.specs.Walks.{Turned, Took, Walked, all_notes}
 use Rattle.seat_walks.proofs.Walking.{walked}
 use Rattle.journal_model.specs.declared.notes.Note.{Note}
 use Rattle.shard_core.specs.Shards.{ChannelBase}

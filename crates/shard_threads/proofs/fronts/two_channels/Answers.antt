@@ -1,4 +1,4 @@
-use Rattle.std.proofs.Common.{◌≡◌, rules, refl, ap, sym, ◌∙◌, subst}
+use Rattle.std.proofs.Common.{rules, refl, ap, sym, ◌∙◌, subst}
 use Rattle.std.specs.Arc.{arc_value}
 use Rattle.coarse_lists.specs.declared.collections.Collection.{Collection}
 use Rattle.coarse_lists.specs.Collections.{IsInRange}
