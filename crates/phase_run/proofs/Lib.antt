@@ -1,1 +1,4 @@
 pub mod Meeting
+pub mod Serving
+pub mod Progress
+pub mod Ticking

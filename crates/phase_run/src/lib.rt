@@ -4,6 +4,9 @@
 //! number, which becomes the floor, and answers the counts of all channels together.
 #![tactic(auto)]
 
+mod callers;
 mod meets;
+mod requests;
+mod rounds;
 
 pub use crate::meets::meet;
