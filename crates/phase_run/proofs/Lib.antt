@@ -2,3 +2,9 @@ pub mod Meeting
 pub mod Serving
 pub mod Progress
 pub mod Ticking
+pub mod Planning
+pub mod Phasing
+pub mod Keeping
+pub mod Tickers
+pub mod Gathering
+pub mod Sending

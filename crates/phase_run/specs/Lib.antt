@@ -1,2 +1,4 @@
 pub mod Meets
 pub mod Callers
+pub mod Jobs
+pub mod Phases
