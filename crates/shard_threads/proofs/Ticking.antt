@@ -1,5 +1,5 @@
 -- Ticks of a seat, one after another.
-use Rattle.std.proofs.Common.{◌≡◌, ℕ, ◌+◌, ◌≤◌, Bool, cond, List, [], ◌∷◌, ◌++◌, map, refl, ap, ap₂, sym, ◌∙◌, arith, append-nil, append_assoc, eq-eqb}
+use Rattle.std.proofs.Common.{◌≡◌, ◌≢◌, ℕ, ◌+◌, ◌≤◌, Bool, cond, List, [], ◌∷◌, ◌++◌, map, refl, ap, ap₂, sym, ◌∙◌, arith, append-nil, append_assoc, eq-eqb, ne_eqb}
 use Rattle.std.proofs.lemmas.List.{map-append}
 use Rattle.turn_facts.specs.Notes.{of}
 use Rattle.turn_table.specs.Knowledge.{at_slot}
@@ -45,7 +45,7 @@ still_ready t n m k a b r p few =
 
 -- ---- what it noted
 pub ticked_none : (line k : ℕ) (s : SeatView Note ChannelBase) → Ticked line k [] s s
-ticked_none line k s = record { drawn = sym (append-nil s.drawn); own = sym (append-nil (own_notes s k)); number = refl }
+ticked_none line k s = record { drawn = sym (append-nil s.drawn); own = sym (append-nil (own_notes s k)); others = λ j n. refl; number = refl }
 
 pub ticked_more : (line k : ℕ) (xs ys : List ℕ) (a b c : SeatView Note ChannelBase) → Ticked line k xs a b → Ticked line k ys b c → Ticked line k (xs ++ ys) a c
 ticked_more line k xs ys a b c p q =
@@ -54,6 +54,7 @@ ticked_more line k xs ys a b c p q =
     record {
       drawn = q.drawn ∙ ap (λ (l : List ℕ). l ++ ys) p.drawn ∙ append_assoc a.drawn xs ys;
       own = q.own ∙ ap₂ (λ (l m : List Note). l ++ m) p.own later ∙ append_assoc (own_notes a k) (notes xs) (notes ys) ∙ ap (λ (l : List Note). own_notes a k ++ l) (sym (map-append (tick_at a.number line) xs ys));
+      others = λ j n. q.others j n ∙ p.others j n;
       number = q.number ∙ p.number;
     }
 
@@ -61,14 +62,18 @@ ticked_more line k xs ys a b c p q =
 noted_there : (k : ℕ) (t : Turned Note) → t.slot ≡ k → all_notes k (Took t ∷ []) ≡ t.notes
 noted_there k t at = append-nil _ ∙ ap (λ (b : Bool). cond b t.notes []) (eq-eqb t.slot k at)
 
+noted_elsewhere : (j : ℕ) (t : Turned Note) → t.slot ≢ j → all_notes j (Took t ∷ []) ≡ []
+noted_elsewhere j t apart = append-nil _ ∙ ap (λ (b : Bool). cond b t.notes []) (ne_eqb t.slot j apart)
+
 -- a turn of the channel at which it noted ticks at the numbers that it drew
 pub ticked_in : (line k : ℕ) (xs : List ℕ) (s e : SeatView Note ChannelBase) (t : Turned Note) → Did s (Took t ∷ []) e → t.slot ≡ k → t.notes ≡ map (tick_at s.number line) xs → t.drawn ≡ xs → Ticked line k xs s e
 ticked_in line k xs s e t did at notes drawn =
     let w : Walked by_of time_of s (Took t ∷ []) e = walked by_of time_of s (Took t ∷ []) e did in
-    let same : of by_of e.number (at_slot e.seen k) ≡ of by_of s.number (at_slot e.seen k) = ap (λ (n : ℕ). of by_of n (at_slot e.seen k)) w.named in
+    let same : (j : ℕ) → of by_of e.number (at_slot e.seen j) ≡ of by_of s.number (at_slot e.seen j) = λ j. ap (λ (n : ℕ). of by_of n (at_slot e.seen j)) w.named in
     record {
       drawn = w.drawn ∙ ap (λ (l : List ℕ). s.drawn ++ l) (append-nil t.drawn ∙ drawn);
-      own = same ∙ w.own k ∙ ap (λ (l : List Note). own_notes s k ++ l) (noted_there k t at ∙ notes);
+      own = same k ∙ w.own k ∙ ap (λ (l : List Note). own_notes s k ++ l) (noted_there k t at ∙ notes);
+      others = λ j n. same j ∙ w.own j ∙ ap (λ (l : List Note). own_notes s j ++ l) (noted_elsewhere j t (λ q. n (sym q ∙ at))) ∙ append-nil (own_notes s j);
       number = w.named;
     }
 

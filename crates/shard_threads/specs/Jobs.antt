@@ -1,5 +1,5 @@
 -- What ticks on one channel do to a seat, and what a job of them has done.
-use Rattle.std.specs.Prelude.{◌≡◌, ℕ, ◌≤◌, List, ◌++◌, map, length, OnOk}
+use Rattle.std.specs.Prelude.{◌≡◌, ◌≢◌, ℕ, ◌≤◌, List, ◌++◌, map, length, OnOk}
 use Rattle.turn_facts.specs.Notes.{of}
 use Rattle.turn_table.specs.Knowledge.{at_slot}
 use Rattle.turn_table.specs.Seats.{SeatView}
@@ -18,10 +18,11 @@ own_notes seat k = of by_of seat.number (at_slot seat.seen k)
 abbrev pub tick_at : ℕ → ℕ → ℕ → Note
 tick_at by line ts = note_of by line (Tick (stamp ts))
 
--- it drew these numbers, and noted a tick at each on the channel k, in their order, and nothing else there
+-- it drew these numbers, and noted a tick at each on the channel k, in their order, and nothing else on any channel
 pub record Ticked (line k : ℕ) (numbers : List ℕ) (old new : SeatView Note ChannelBase) : Type 0 where
   pub drawn : new.drawn ≡ old.drawn ++ numbers
   pub own : own_notes new k ≡ own_notes old k ++ map (tick_at old.number line) numbers
+  pub others : (j : ℕ) → j ≢ k → own_notes new j ≡ own_notes old j
   pub number : new.number ≡ old.number
 
 -- the job ticked its channel, as often as it was to unless memory was wanting, and was answered each number
