@@ -10,5 +10,7 @@ mod leaving;
 mod marking;
 mod merging;
 mod stretches;
+#[cfg(test)]
+mod tests;
 
 pub use crate::merging::merge;
