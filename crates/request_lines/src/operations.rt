@@ -154,8 +154,10 @@ fn search_in(alloc: Global, collection: &Collection, value: &Value) -> Result<As
     })
 }
 
-fn get_in(value: &Value) -> Result<Ask, Reason>
-    ensures { (collection : Spec) → result ≡ get_read collection (Some (view value.now)) }
+fn get_in(value: &Value) -> Result<Ask, LineError>
+    ensures ok { (collection : Spec) → IfOk result (λ ask. get_read collection (Some (view value.now)) ≡ Ok ask) }
+    ensures err { (collection : Spec) → IfErr result (Refuses (get_read collection (Some (view value.now)))) }
+    ensures fits { (collection : Spec) → IfOk result (FitsAsk collection) }
 {
     let key = key_at(value).ok_or(Reason::BadKey)?;
     let level = level_at(value).ok_or(Reason::BadLevel)?;
@@ -187,7 +189,7 @@ pub fn ask_in(
             Ok(Ask::Write(Write::Delete(Key(key))))
         }
         Operation::Search => search_in(alloc, collection, value),
-        Operation::Get => Ok(get_in(value)?),
+        Operation::Get => get_in(value),
         Operation::Tick => Ok(Ask::Tick),
         Operation::Seal => Ok(Ask::Seal),
         Operation::Meet => Ok(Ask::Meet),

@@ -10,7 +10,10 @@ returns-in_err-operation-clause-err c =
     (form_refused c.args.collection.now (Some (view c.args.value.now)) c.in_err-operation.field-0.0 (sym (c.in_err-operation.ensures c.args.collection.now)))
 
 pub returns-in_err-caller-clause-err : goal.returns-in_err-caller-clause-err
-returns-in_err-caller-clause-err c = ?
+returns-in_err-caller-clause-err c =
+    passed_on c.args.collection.now (Some (view c.args.value.now)) c.from_residual-in_err-caller.result (Refused c.in_err-caller.field-0.0) c.from_residual-in_err-caller.ensures.1
+    (caller_refused c.args.collection.now (Some (view c.args.value.now)) c.in_ok-operation.operation c.in_err-caller.field-0.0
+      (sym (c.in_ok-operation.ensures c.args.collection.now)) (sym (c.in_err-caller.ensures.same c.args.collection.now)))
 
 pub returns-in_err-what-clause-err : goal.returns-in_err-what-clause-err
 returns-in_err-what-clause-err c =
