@@ -74,7 +74,7 @@ module _ (collection : Collection) (line : Line) where
       let here = caller_here operation (Ok caller) form called in
       behind_caller operation caller (request_in collection line (operation_in line)) form here
       ∙ asked (find holds_here member_reasons) (caller_in line (operation_in line)) caller (ask_in collection line (operation_in line)) ask
-          (value_is (find holds_here caller_reasons) (caller_in line (operation_in line)) caller here) (ask_here operation (Ok ask) form members)
+      (value_is (find holds_here caller_reasons) (caller_in line (operation_in line)) caller here) (ask_here operation (Ok ask) form members)
 
   -- the first reason on the form of a line
   pub form_refused : (reason : Reason) → operation_read collection line ≡ Err reason → line_request collection line ≡ Err reason
@@ -86,7 +86,7 @@ module _ (collection : Collection) (line : Line) where
   caller_refused operation reason form called =
       behind holds_here form_reasons (caller_reasons ++ member_reasons) (operation_in line) operation (request_in collection line (operation_in line)) form
       ∙ before holds_here caller_reasons member_reasons (caller_in line (operation_in line)) (request_in collection line (operation_in line)) reason
-          (caller_here operation (Err reason) form called)
+      (caller_here operation (Err reason) form called)
 
   refused_alike : (o : Option Reason) (x : Ask) (y : Request) (reason : Reason) → refused_or o x ≡ Err reason → refused_or o y ≡ Err reason
   refused_alike (Some found) x y reason e = let same : found ≡ reason = cc in ap Err same
@@ -99,7 +99,7 @@ module _ (collection : Collection) (line : Line) where
   members_refused operation caller (Refused reason) form called members =
       behind_caller operation caller (request_in collection line (operation_in line)) form (caller_here operation (Ok caller) form called)
       ∙ refused_alike (find holds_here member_reasons) (ask_in collection line (operation_in line)) (request_in collection line (operation_in line)) reason
-          (ask_here operation (Err reason) form members)
+      (ask_here operation (Err reason) form members)
 
   -- an error that came through a `?`
   pub passed_on : (r : Result Request LineError) (error : LineError) → IsErrAnd r (λ e. e ≡ error) → Refuses (line_request collection line) error → IfErr r (Refuses (line_request collection line))
