@@ -1,7 +1,7 @@
 //! Sessions of several callers and channels, with meets.
 
-use crate::holds::Hold;
 use crate::runs::{check, check_held};
+use line_gates::Hold;
 use manu_edge::At;
 use std::test::Fail;
 

@@ -15,8 +15,6 @@ mod endings;
 #[cfg(test)]
 mod examples;
 #[cfg(test)]
-mod holds;
-#[cfg(test)]
 mod random;
 #[cfg(test)]
 mod runs;
