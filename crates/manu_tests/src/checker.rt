@@ -97,9 +97,9 @@ impl Checker {
 
     fn is_right(&mut self, ask: &Ask, answer: &Value) -> Result<bool, Fail> {
         match ask.what {
-            What::Insert(key, _) | What::Upsert(key, _) | What::Delete(key) => {
-                self.is_written(ask, key, answer)
-            }
+            What::Insert(key, _) => self.is_written(ask, key, answer),
+            What::Upsert(key, _) => self.is_written(ask, key, answer),
+            What::Delete(key) => self.is_written(ask, key, answer),
             What::Search { byte, k, level } => {
                 Ok(self.is_fresh(ask.caller, level, answer) && self.is_found(byte, k, answer)?)
             }
