@@ -1,4 +1,4 @@
-//! A gate at which one line waits for another.
+//! A gate that holds two lines for each other.
 
 use manu_edge::{At, Gate, Point};
 use std::sync::Wait;
@@ -7,7 +7,7 @@ use std::sync::atomic::{AtomicU64, Ordering};
 /// Holds a line at a point until the other line is answered, and the other at its start until the first
 /// is there; each for at most 100,000,000 looks.
 #[derive(Drop)]
-pub(crate) struct Hold {
+pub struct Hold {
     line: u32,
     at: At,
     other: u32,
@@ -17,7 +17,8 @@ pub(crate) struct Hold {
 }
 
 impl Hold {
-    pub(crate) fn new(line: u32, at: At, other: u32) -> Hold {
+    /// A hold of `line` at a point, and of `other` at its start; both are numbers of input lines.
+    pub fn new(line: u32, at: At, other: u32) -> Hold {
         Hold {
             line,
             at,
@@ -29,7 +30,7 @@ impl Hold {
     }
 
     /// Whether the other line was answered while the first was held, and nobody waited in vain.
-    pub(crate) fn was_kept(&self) -> bool {
+    pub fn was_kept(&self) -> bool {
         let answered = self.answered.load(Ordering::SeqCst) == 1;
         answered && self.missed.load(Ordering::SeqCst) == 0
     }
