@@ -3,7 +3,7 @@
 ghost use Rattle.std.specs.Prelude.{◌≡◌, ◌+◌, ◌^◌, ◌<◌, All, length, None, IfOk};
 ghost use Rattle.legal_output.specs.Lines.{written_of};
 ghost use Rattle.phase_run.specs.Phases.{IsDoneOf, AreDone, AreAnswered};
-ghost use Rattle.phase_lines.specs.Waiting.{MayWait};
+ghost use Rattle.phase_lines.specs.Waiting.{MayWait, AreHeld};
 
 use crate::{PhaseLines, append_lines};
 use answer_lines::{Answer, Reason};
@@ -46,6 +46,23 @@ fn tick_of(caller: u32) -> Result<Request, Reason>
     })
 }
 
+// Lines that wait, from the number `first` on.
+fn held(
+    alloc: Global,
+    first: u32,
+    reads: Vec<Result<Request, Reason>>,
+) -> Result<PhaseLines, Memory>
+    requires may { All MayWait reads.items }
+    requires room { first + length reads.items < 2 ^ 32 }
+    ensures { IfOk result (AreHeld first reads.items) }
+{
+    let mut lines = PhaseLines::new(alloc, first)?;
+    for read in reads {
+        lines.add(read)?;
+    }
+    Ok(lines)
+}
+
 // The text for lines that are answered by `done_of`.
 fn text_for(
     alloc: Global,
@@ -55,10 +72,7 @@ fn text_for(
     requires may { All MayWait reads.items }
     requires room { first + length reads.items < 2 ^ 32 }
 {
-    let mut lines = PhaseLines::new(alloc, first)?;
-    for read in reads {
-        lines.add(read)?;
-    }
+    let lines = held(alloc, first, reads)?;
     let mine = vec![in alloc; Timestamp(0); 16]?;
     let (slots, works) = lines.into_works(alloc, mine.as_slice())?;
     let done = done_all(alloc, works.as_slice())?;
