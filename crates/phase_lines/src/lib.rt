@@ -5,5 +5,10 @@
 #![tactic(auto)]
 
 mod lines;
+mod places;
+#[cfg(test)]
+mod tests;
+mod texts;
 
 pub use crate::lines::{PhaseLines, Slot};
+pub use crate::texts::append_lines;
