@@ -1,5 +1,5 @@
 -- Channels at rest.
-use Rattle.std.specs.Prelude.{◌≡◌, ℕ, List, length, map}
+use Rattle.std.specs.Prelude.{◌≡◌, ℕ, length, map}
 use Rattle.std.specs.Arc.{arc_value}
 use Rattle.coarse_lists.specs.declared.collections.Collection.{Collection}
 use Rattle.hybrid_time.specs.declared.times.Timestamp.{Timestamp}

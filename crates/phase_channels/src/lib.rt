@@ -6,5 +6,7 @@
 #![tactic(auto)]
 
 mod channels;
+#[cfg(test)]
+mod tests;
 
 pub use crate::channels::Channels;
