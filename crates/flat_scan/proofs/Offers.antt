@@ -1,5 +1,5 @@
 -- Rows that are offered one after another.
-use Rattle.std.proofs.Common.{◌≡◌, ℕ, zero, suc, ◌+◌, ◌-◌, ◌<◌, ◌≤◌, nat_lt, get_or, Bool, true, false, List, [], ◌∷◌, ◌++◌, length, take, slice_get, Option, Some, None, IfSome, refl, sym, ap, subst, ◌∙◌, add-one, arith}
+use Rattle.std.proofs.Common.{◌≡◌, ℕ, zero, suc, ◌+◌, ◌<◌, ◌≤◌, nat_lt, get_or, Bool, true, false, List, [], ◌∷◌, ◌++◌, length, take, slice_get, Option, Some, None, IfSome, refl, sym, ap, subst, ◌∙◌, add-one, arith}
 use Rattle.std.specs.Ordering.{is_lt, ordering_then}
 use Rattle.std.specs.declared.cmp.Ordering.{Ordering}
 use Rattle.std.specs.declared.cmp.Ordering.TheVariants.{Less, Equal, Greater}
@@ -123,19 +123,6 @@ past_next far hit from i d past all is that e j le lt = go (nat_lt j i) refl
         let least : i ≤ j = ltb-false j i f in
         let same : i ≡ j = omega arith in
         subst (λ n. is_past hit (far n) ≡ true) same (ap (is_past hit) (sym is) ∙ sym that ∙ e)
-
--- four rows are too far where each of them is
-pub past_four : (far : ℕ → Distance) (hit : Option Hit) (from first second third fourth : ℕ) → (1 ≤ first → is_past hit (far from) ≡ true) → (1 ≤ second → is_past hit (far (from + 1)) ≡ true)
-    → (1 ≤ third → is_past hit (far (from + 2)) ≡ true) → (1 ≤ fourth → is_past hit (far (from + 3)) ≡ true) → first ≤ 1 → second ≤ 1 → third ≤ 1 → fourth ≤ 1
-    → 4 ≤ first + second + third + fourth → AreAllPast far hit from (from + 4)
-past_four far hit from first second third fourth one two three four a b c d all j le lt = go (j - from) (omega arith)
-  where
-    go : (n : ℕ) → from + n ≡ j → is_past hit (far j) ≡ true
-    go zero e = let same : from ≡ j = omega arith in subst (λ i. is_past hit (far i) ≡ true) same (one (omega arith))
-    go (suc zero) e = let same : from + 1 ≡ j = omega arith in subst (λ i. is_past hit (far i) ≡ true) same (two (omega arith))
-    go (suc (suc zero)) e = let same : from + 2 ≡ j = omega arith in subst (λ i. is_past hit (far i) ≡ true) same (three (omega arith))
-    go (suc (suc (suc zero))) e = let same : from + 3 ≡ j = omega arith in subst (λ i. is_past hit (far i) ≡ true) same (four (omega arith))
-    go (suc (suc (suc (suc n)))) e = absurd (omega arith)
 
 -- rows that are too far, and rows behind them
 pub past_more : (far : ℕ → Distance) (hit : Option Hit) (from mid to : ℕ) → AreAllPast far hit from mid → AreAllPast far hit mid to → AreAllPast far hit from to

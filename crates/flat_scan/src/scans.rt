@@ -1,6 +1,6 @@
 //! The walk along rows that stand together.
 
-ghost use Rattle.std.specs.Prelude.{◌≡◌, ◌+◌, ◌*◌, ◌^◌, ◌<◌, ◌≤◌, ◌∷◌, [], true, length, map, Some, IfSome, MatchOption, slice_get};
+ghost use Rattle.std.specs.Prelude.{◌≡◌, ◌+◌, ◌*◌, ◌^◌, ◌<◌, ◌≤◌, ◌∷◌, [], length, map, Some, IfSome, MatchOption, slice_get};
 ghost use Rattle.std.specs.List.{AllByRecursion};
 ghost use Rattle.row_types.specs.Bits.{AreWordsOf};
 ghost use Rattle.row_types.specs.Hits.{least, distance_of};
@@ -8,7 +8,7 @@ ghost use Rattle.log_model.specs.Places.{IsColumn, width_of};
 ghost use Rattle.journal_model.specs.Views.{Shown};
 ghost use Rattle.top_list.specs.Kept.{Offered, IsBehindAll};
 ghost use Rattle.view_laws.specs.Found.{hits_seen};
-ghost use Rattle.flat_scan.specs.Bars.{AreAllPast, IsFirstNear, is_past};
+ghost use Rattle.flat_scan.specs.Bars.{AreAllPast, IsFirstNear};
 ghost use Rattle.flat_scan.specs.Rows.{AreDistances, HoldsVectors, HaveVectorsLike, vector_shown};
 
 use crate::bars::Bar;
@@ -153,8 +153,8 @@ struct Near {
 
 // The first row from a number on that is not too far, at a step for each row that is looked at. A
 // function of its own, and never part of another, so that nothing but the distance and the bar is in
-// its loops: four rows a turn, with one branch for them all, since at a word or two a row turns and
-// branches cost as much as the rows; and then the rows that are left.
+// its loops: four rows a turn, since at a word or two a row the turns cost as much as the rows, and
+// then the rows that are left.
 #[inline(never)]
 fn next_near<D: Distances, L: Ledger>(
     far: &D,
@@ -192,73 +192,15 @@ fn near_in_fours<D: Distances, L: Ledger>(
     ensures steps { MatchOption result (steps.new ≡ steps.old + 4 * fours) (λ near. steps.new + from ≡ steps.old + near.i + 1) }
 {
     'fours: for turn in 0..fours {
-        if let Some(near) = near_in_four(far, from + 4 * turn, bar, steps) {
+        if let Some(near) = near_in(far, from + 4 * turn, 4, bar, steps) {
             return Some(near);
         }
     }
     None
 }
 
-// The first row that is not too far among four from a number on. Most often all four are too far,
-// and one branch tells so; only else they are gone through one by one.
+// The first row that is not too far among as many rows from a number on.
 #[inline(always)]
-fn near_in_four<D: Distances, L: Ledger>(
-    far: &D,
-    from: u32,
-    bar: &Bar,
-    steps: &mut Steps<L>,
-) -> Option<Near>
-    requires few { from + 4 < 2 ^ 32 }
-    requires there { from + 4 ≤ D.count far.now }
-    ensures near { MatchOption result (AreAllPast (D.far far.now) bar.now.hit from (from + 4))
-        (λ near. IsFirstNear (D.far far.now) bar.now.hit from (from + 4) near.i near.distance) }
-    ensures steps { MatchOption result (steps.new ≡ steps.old + 4) (λ near. steps.new + from ≡ steps.old + near.i + 1) }
-{
-    if pasts_in_four(far, from, bar) < 4 {
-        return near_in(far, from, 4, bar, steps);
-    }
-    count_four(steps);
-    None
-}
-
-// Counts four rows that were passed by.
-#[inline(always)]
-fn count_four<L: Ledger>(steps: &mut Steps<L>)
-    ensures { steps.new ≡ steps.old + 4 }
-{
-    steps.tick();
-    steps.tick();
-    steps.tick();
-    steps.tick();
-}
-
-// How many of four rows from a number on are too far: a sum, and so without a branch between them.
-#[inline(always)]
-fn pasts_in_four<D: Distances>(far: &D, from: u32, bar: &Bar) -> u32
-    requires few { from + 4 < 2 ^ 32 }
-    requires there { from + 4 ≤ D.count far.now }
-    ensures { 4 ≤ result → AreAllPast (D.far far.now) bar.now.hit from (from + 4) }
-{
-    let first = past_at(far, from, bar);
-    let second = past_at(far, from + 1, bar);
-    let third = past_at(far, from + 2, bar);
-    let fourth = past_at(far, from + 3, bar);
-    first + second + third + fourth
-}
-
-// One where a row is too far, and else nothing.
-#[inline(always)]
-fn past_at<D: Distances>(far: &D, i: u32, bar: &Bar) -> u32
-    requires { i < D.count far.now }
-    ensures past { 1 ≤ result → is_past bar.now.hit (D.far far.now i) ≡ true }
-    ensures few { result ≤ 1 }
-{
-    u32::from(bar.is_before(far.distance(i)))
-}
-
-// The first row that is not too far among as many rows from a number on. Never part of another, so
-// that no turn of the walk keeps its distances for it.
-#[inline(never)]
 fn near_in<D: Distances, L: Ledger>(
     far: &D,
     from: u32,
