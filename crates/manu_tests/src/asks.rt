@@ -71,16 +71,26 @@ fn line(alloc: Global, ask: &Ask) -> Result<Vec<u8>, AllocError> {
         ),
         What::Search { byte, k, level } => {
             let level = level.name();
-            let head = format!(in alloc; r#"{{"op":"search","caller":{caller},"k":{k},"level":"{level}""#)?;
+            let head = format!(in alloc;
+                r#"{{"op":"search","caller":{caller},"k":{k},"level":"{level}""#
+            )?;
             (head, Some(byte))
         }
         What::Get { key, level } => {
             let level = level.name();
-            let head = format!(in alloc; r#"{{"op":"get","caller":{caller},"key":{key},"level":"{level}""#)?;
+            let head = format!(in alloc;
+                r#"{{"op":"get","caller":{caller},"key":{key},"level":"{level}""#
+            )?;
             (head, None)
         }
-        What::Tick => (format!(in alloc; r#"{{"op":"tick","caller":{caller}"#)?, None),
-        What::Seal => (format!(in alloc; r#"{{"op":"seal","caller":{caller}"#)?, None),
+        What::Tick => (
+            format!(in alloc; r#"{{"op":"tick","caller":{caller}"#)?,
+            None,
+        ),
+        What::Seal => (
+            format!(in alloc; r#"{{"op":"seal","caller":{caller}"#)?,
+            None,
+        ),
         What::Meet => (format!(in alloc; r#"{{"op":"meet""#)?, None),
         What::Bad => (format!(in alloc; r#"{{"op":"fly""#)?, None),
     };

@@ -150,7 +150,10 @@ impl Checker {
         let Some(hits) = answer.get("hits").and_then(Value::as_array) else {
             return Ok(false);
         };
-        let all = hits.iter().zip(wanted.iter()).all(|(hit, row)| is_hit(hit, *row));
+        let all = hits
+            .iter()
+            .zip(wanted.iter())
+            .all(|(hit, row)| is_hit(hit, *row));
         Ok(is_answer(answer, "hits") && hits.len() == wanted.len() && all)
     }
 

@@ -100,12 +100,7 @@ fn a_fault_comes_exactly_where_a_call_fails(rt: HostRuntime) -> Result<(), Fail>
     )?;
     let cases = [
         (1, [].as_slice(), Status::ReadFault, Status::WriteFault),
-        (
-            2,
-            created.as_slice(),
-            Status::ReadFault,
-            Status::WriteFault,
-        ),
+        (2, created.as_slice(), Status::ReadFault, Status::WriteFault),
         (3, whole.as_slice(), Status::Done, Status::Done),
         (4, whole.as_slice(), Status::Done, Status::Done),
     ];

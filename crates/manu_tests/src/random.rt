@@ -26,7 +26,11 @@ fn output_of<R: Threads + Wait + Sync>(
         failing_writes: &[],
     };
     let (status, output) = run(rt, alloc, &given, &FixedMoments(0))?;
-    Ok(if status == Status::Done { Some(output) } else { None })
+    Ok(if status == Status::Done {
+        Some(output)
+    } else {
+        None
+    })
 }
 
 #[test]

@@ -52,12 +52,7 @@ pub fn run_held<R: Threads + Wait + Sync, M: Moments + Sync, G: Gate + Sync>(
 }
 
 /// The same of an input that comes from any source.
-pub fn run_from<
-    R: Threads + Wait + Sync,
-    S: Source,
-    M: Moments + Sync,
-    G: Gate + Sync,
->(
+pub fn run_from<R: Threads + Wait + Sync, S: Source, M: Moments + Sync, G: Gate + Sync>(
     rt: &R,
     alloc: Global,
     given: &Given,

@@ -111,7 +111,7 @@ module _ (first : ℕ) (slots : List Slot) (dones : List Done) (reads : List Rea
     block_is old new written = (
       weave first reads (items_at places),
       written
-      ∙ ap (λ (l : List Slot). old ++ text_of_slots first l (items_at places)) can.slots_are
-      ∙ ap (λ (l : List ℕ). old ++ l) (sym (weave_text first reads (items_at places))),
+          ∙ ap (λ (l : List Slot). old ++ text_of_slots first l (items_at places)) can.slots_are
+          ∙ ap (λ (l : List ℕ). old ++ l) (sym (weave_text first reads (items_at places))),
       is_block,
     )

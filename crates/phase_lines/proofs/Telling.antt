@@ -51,9 +51,9 @@ stand_more dones done places low stand apart i other at =
     (λ (t : IsAt dones i other).
     let there : 1 ≤ count other.caller (map caller_of_done dones) = at_among caller_of_done dones i other t in
     let differ : other.caller ≢ done.caller = λ same.
-        (let e : count other.caller (map caller_of_done (dones ++ done ∷ [])) ≡ count other.caller (map caller_of_done dones) + count other.caller (done.caller ∷ []) = counted other.caller in
-        let once : count other.caller (map caller_of_done (dones ++ done ∷ [])) ≤ 1 = apart other.caller in
-        let one : count other.caller (done.caller ∷ []) ≡ 1 + count other.caller [] = ap (λ (n : ℕ). count other.caller (n ∷ [])) (sym same) ∙ count-here other.caller [] in omega arith) in
+    (let e : count other.caller (map caller_of_done (dones ++ done ∷ [])) ≡ count other.caller (map caller_of_done dones) + count other.caller (done.caller ∷ []) = counted other.caller in
+    let once : count other.caller (map caller_of_done (dones ++ done ∷ [])) ≤ 1 = apart other.caller in
+    let one : count other.caller (done.caller ∷ []) ≡ 1 + count other.caller [] = ap (λ (n : ℕ). count other.caller (n ∷ [])) (sym same) ∙ count-here other.caller [] in omega arith) in
     items_at-set_other places done.caller other.caller done.answers differ ∙ stand before i other t)
     (λ (t : (done ≡ other) × (i ≡ length dones)). subst (λ (d : Done). items_at (set places done.caller done.answers) d.caller ≡ d.answers.items) t.0 (items_at-set_same places done.caller done.answers low))
     (at_more dones done other i at)
@@ -84,9 +84,9 @@ left_more places told caller low =
     ⊎_elim
     (λ (same : other ≡ caller).
     let here : left_of places (set told caller (n + 1)) caller ≡ put (left_of places told) caller more caller =
-        ap (λ (k : ℕ). drop k (items_at places caller)) (get_or-set_same told caller (n + 1) 0 low)
-        ∙ sym (drop-drop 1 n (items_at places caller))
-        ∙ sym (put_here (left_of places told) caller more) in
+    ap (λ (k : ℕ). drop k (items_at places caller)) (get_or-set_same told caller (n + 1) 0 low)
+    ∙ sym (drop-drop 1 n (items_at places caller))
+    ∙ sym (put_here (left_of places told) caller more) in
     subst (λ (k : ℕ). left_of places (set told caller (n + 1)) k ≡ put (left_of places told) caller more k) (sym same) here)
     (λ (differ : other ≢ caller).
     ap (λ (k : ℕ). drop k (items_at places other)) (get_or-set_other told caller other (n + 1) 0 differ)

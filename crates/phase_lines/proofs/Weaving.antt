@@ -142,12 +142,12 @@ weave_lines caller number (Ok request ∷ reads) left may enough =
     let requests = requests_of request.caller (number + 1) reads in
     let all : length (requests_of request.caller number (Ok request ∷ reads)) ≤ length (left request.caller) = subst (λ (c : ℕ). length (requests_of c number (Ok request ∷ reads)) ≤ length (left c)) same enough in
     let own_others : lines_of (Some request.caller) rest ≡ answered requests more =
-        subst (λ (c : ℕ). lines_of (Some c) rest ≡ answered (requests_of c (number + 1) reads) (behind c)) same others ∙ ap (answered requests) (put_here left request.caller more) in
+    subst (λ (c : ℕ). lines_of (Some c) rest ≡ answered (requests_of c (number + 1) reads) (behind c)) same others ∙ ap (answered requests) (put_here left request.caller more) in
     let whole : lines_of (Some request.caller) (line ∷ rest) ≡ answered (requests_of request.caller number (Ok request ∷ reads)) (left request.caller) =
-        lines_here request.caller line rest asks
-        ∙ ap (λ (l : List Line). line ∷ l) own_others
-        ∙ sym (answered_first (number, request) requests (left request.caller) (has_first number request reads left may.0 all))
-        ∙ ap (λ (l : List (ℕ × Request)). answered l (left request.caller)) (sym (requests_here number request reads may.0)) in
+    lines_here request.caller line rest asks
+    ∙ ap (λ (l : List Line). line ∷ l) own_others
+    ∙ sym (answered_first (number, request) requests (left request.caller) (has_first number request reads left may.0 all))
+    ∙ ap (λ (l : List (ℕ × Request)). answered l (left request.caller)) (sym (requests_here number request reads may.0)) in
     subst (λ (c : ℕ). lines_of (Some c) (line ∷ rest) ≡ answered (requests_of c number (Ok request ∷ reads)) (left c)) (sym same) whole)
     (λ (other : caller ≢ request.caller).
     lines_else caller request.caller line rest asks other

@@ -42,8 +42,8 @@ returns-in-Asked-clause-text c =
     let there : caller < length c.args.answers.now = (let many : length c.args.answers.now ≡ 16 = c.requires.many.0 in omega arith) in
     let n_is : c.index-next.result.now ≡ get_or told caller 0 = get_or_read told caller c.index-next.result.now low c.index-next.ensures 0 in
     let shown : answer_at c.args.slot left ≡ c.index.result.now.1 =
-        ap (λ (s : Slot). answer_at s left) c.in-Asked.is
-        ∙ next_answer c.args.answers.now told caller c.index-answers-at.result c.index-next.result.now there c.index-answers-at.is n_is has.1 c.index.result.now c.index.ensures in
+    ap (λ (s : Slot). answer_at s left) c.in-Asked.is
+    ∙ next_answer c.args.answers.now told caller c.index-answers-at.result c.index-next.result.now there c.index-answers-at.is n_is has.1 c.index.result.now c.index.ensures in
     on_ok_weaker c.append_line-in-Asked.result (λ e. e ∙ ap (λ (answer : Answer). c.args.text.now.items ++ text_of c.args.number answer) (sym shown)) c.append_line-in-Asked.ensures
 
 pub returns-in-Asked-clause-left : goal.returns-in-Asked-clause-left

@@ -10,7 +10,7 @@ returns-in_ok-push-in-Err-clause-added c first reads held =
     let old = c.args.self.now in
     let slots : c.push.new.self.items ≡ old.slots.items ++ slot_of c.args.read ∷ [] = c.in_ok-push-in-Err.ensures.items ∙ ap (λ (read : Read). old.slots.items ++ slot_of read ∷ []) (sym c.in-Err.is) in
     let places : Gains (λ (caller : ℕ). own caller (old.first + length old.slots.items) c.args.read) old.places.items old.places.items =
-        subst (λ (read : Read). Gains (λ (caller : ℕ). own caller (old.first + length old.slots.items) read) old.places.items old.places.items) (sym c.in-Err.is) (none_gains old.places.items) in
+    subst (λ (read : Read). Gains (λ (caller : ℕ). own caller (old.first + length old.slots.items) read) old.places.items old.places.items) (sym c.in-Err.is) (none_gains old.places.items) in
     held_more first reads c.args.read old _ c.requires.may (record { first = refl; slots = slots; places = places }) held
 
 pub returns-in-Ok-clause-added : goal.returns-in-Ok-clause-added
