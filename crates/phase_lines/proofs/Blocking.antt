@@ -1,5 +1,5 @@
 -- The lines that answer a phase's lines.
-use Rattle.std.proofs.Common.{◌≡◌, ◌≢◌, ◌⊎◌, ℕ, zero, suc, ◌<◌, ◌≤◌, List, [], ◌∷◌, ◌++◌, length, map, All, Some, refl, ap, sym, ◌∙◌, subst, inl, inr, ⊎_elim, arith}
+use Rattle.std.proofs.Common.{◌≡◌, ◌≢◌, ℕ, zero, suc, ◌<◌, ◌≤◌, List, [], ◌∷◌, ◌++◌, length, map, All, Some, ap, sym, ◌∙◌, subst, inl, inr, ⊎_elim, arith}
 use Rattle.std.specs.List.{flat_map}
 use Rattle.std.specs.Global.{Vec}
 use Rattle.std.proofs.lemmas.List.{length-map}
@@ -19,7 +19,7 @@ use Rattle.phase_run.specs.declared.works.Done.{Done}
 use Rattle.phase_run.specs.Callers.{answered}
 use Rattle.phase_run.specs.Phases.{whose_work, AreDone}
 use Rattle.phase_lines.specs.declared.lines.Slot.{Slot}
-use Rattle.phase_lines.specs.Waiting.{Read, requests_of, slot_of}
+use Rattle.phase_lines.specs.Waiting.{Read, requests_of}
 use Rattle.phase_lines.specs.Blocks.{CanAppend, IsBlock}
 use Rattle.phase_lines.specs.Steps.{items_at, StandAt, text_of_slots, HaveAnswers}
 use Rattle.phase_lines.proofs.Counting.{among_at}

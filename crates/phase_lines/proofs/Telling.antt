@@ -1,18 +1,18 @@
 -- Answers at the places of callers, and what is left of them behind a line.
-use Rattle.std.proofs.Common.{◌≡◌, ◌≢◌, ◌⊎◌, ℕ, zero, suc, ◌+◌, ◌-◌, ◌^◌, ◌<◌, ◌≤◌, List, [], ◌∷◌, ◌++◌, length, map, drop, get_or, set, replicate, All, refl, ap, sym, ◌∙◌, subst, ⊎_elim, arith}
+use Rattle.std.proofs.Common.{◌≡◌, ◌≢◌, ℕ, zero, suc, ◌+◌, ◌-◌, ◌^◌, ◌<◌, ◌≤◌, List, [], ◌∷◌, ◌++◌, length, map, drop, get_or, set, replicate, refl, ap, sym, ◌∙◌, subst, ⊎_elim, arith}
 use Rattle.std.specs.Global.{Vec}
 use Rattle.std.proofs.Math.Path.{fun_ext}
 use Rattle.std.proofs.lemmas.Bool.{cases_lt}
 use Rattle.std.proofs.lemmas.List.{map-append, drop-drop, get_or-set_same, get_or-set_other, get_or-replicate, get_or_past, length-replicate, length-drop}
 use mathlib.Core.Option.{some-ne-none}
 use Rattle.answer_lines.specs.declared.answers.Answer.{Answer}
-use Rattle.turn_facts.specs.Counts.{count, Among, NoneTwice}
+use Rattle.turn_facts.specs.Counts.{count, NoneTwice}
 use Rattle.turn_facts.specs.Prefixes.{IsAt, put}
-use Rattle.turn_facts.proofs.Counts.{count-nil, count-here, count-append}
-use Rattle.turn_facts.proofs.Places.{same_or, put_here, put_else, at_more, at_get, at_some}
+use Rattle.turn_facts.proofs.Counts.{count-here, count-append}
+use Rattle.turn_facts.proofs.Places.{same_or, put_here, put_else, at_more}
 use Rattle.phase_run.specs.declared.works.Done.{Done}
 use Rattle.phase_lines.specs.declared.lines.Slot.{Slot}
-use Rattle.phase_lines.specs.declared.lines.Slot.TheVariants.{Refused, Asked}
+use Rattle.phase_lines.specs.declared.lines.Slot.TheVariants.{Asked}
 use Rattle.phase_lines.proofs.Counting.{at_among}
 use Rattle.phase_lines.specs.Steps.{items_at, left_of, StandAt, first_of, left_behind, HasAnswer}
 

@@ -6,13 +6,13 @@ use Rattle.std.proofs.lemmas.List.{map-append, length_push}
 use mathlib.Core.Option.{some-ne-none}
 use Rattle.hybrid_time.specs.declared.times.Timestamp.{Timestamp}
 use Rattle.request_lines.specs.declared.requests.Request.{Request}
-use Rattle.turn_facts.specs.Counts.{count, Among, NoneTwice}
+use Rattle.turn_facts.specs.Counts.{count}
 use Rattle.turn_facts.specs.Prefixes.{IsAt}
 use Rattle.turn_facts.proofs.Counts.{count-nil, count-here, count-else, count-append}
 use Rattle.turn_facts.proofs.Places.{same_or, at_more, at_below, at_longer, at_last, at_some}
 use Rattle.phase_run.specs.declared.works.Work.{Work}
 use Rattle.phase_lines.specs.declared.lines.PhaseLines.{PhaseLines}
-use Rattle.phase_lines.specs.Waiting.{Read, requests_of, AreHeld, AreWorks}
+use Rattle.phase_lines.specs.Waiting.{Read, AreHeld, AreWorks}
 use Rattle.phase_lines.specs.Steps.{AreWorksOf}
 use Rattle.phase_lines.proofs.Counting.{among_at}
 use Rattle.phase_lines.proofs.Weaving.{none_above}

@@ -1,4 +1,4 @@
-use Rattle.std.proofs.Common.{◌≡◌, ℕ, List, map, refl, ap, sym, ◌∙◌}
+use Rattle.std.proofs.Common.{ℕ, map, refl, ap, sym, ◌∙◌}
 use Rattle.std.proofs.lemmas.List.{take_all}
 use Rattle.request_lines.specs.declared.requests.Request.{Request}
 use Rattle.phase_lines.proofs.Testing.{quiet_behind, numbers_are}
