@@ -13,7 +13,7 @@ use Rattle.row_types.specs.declared.rows.Field.{Field}
 use Rattle.row_types.specs.declared.rows.Field.TheVariants as fields
 use Rattle.row_types.specs.Spelling.{hex_of}
 use Rattle.answer_lines.specs.declared.reasons.Reason.{Reason}
-use Rattle.answer_lines.specs.declared.reasons.Reason.TheVariants.{NotJson, NotObject, BadOp, LateCreate, UnknownMember, BadKey, NoVector, BadVector, BadFields, BadK, BadLevel, BadFilter}
+use Rattle.answer_lines.specs.declared.reasons.Reason.TheVariants.{NotJson, NotObject, BadOp, LateCreate, UnknownMember, BadCaller, BadKey, NoVector, BadVector, BadFields, BadK, BadLevel, BadFilter, BadWait}
 use Rattle.answer_lines.specs.declared.answers.Wrote.{Wrote}
 use Rattle.answer_lines.specs.declared.answers.Wrote.TheVariants.{Inserted, Exists, Was}
 use Rattle.answer_lines.specs.declared.answers.Named.{Named}
@@ -74,6 +74,7 @@ name_of NotObject = codes "NotObject"
 name_of BadOp = codes "BadOp"
 name_of LateCreate = codes "LateCreate"
 name_of UnknownMember = codes "UnknownMember"
+name_of BadCaller = codes "BadCaller"
 name_of BadKey = codes "BadKey"
 name_of NoVector = codes "NoVector"
 name_of BadVector = codes "BadVector"
@@ -81,6 +82,7 @@ name_of BadFields = codes "BadFields"
 name_of BadK = codes "BadK"
 name_of BadLevel = codes "BadLevel"
 name_of BadFilter = codes "BadFilter"
+name_of BadWait = codes "BadWait"
 
 -- an object whose first members are the kind of the answer
 abbrev pub answered : List ℕ → Members → Data

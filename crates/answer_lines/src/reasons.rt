@@ -13,6 +13,8 @@ pub enum Reason {
     LateCreate,
     /// The operation doesn't have one of the members.
     UnknownMember,
+    /// `caller` is no integer from 0 to 15.
+    BadCaller,
     /// `key` is absent or no integer.
     BadKey,
     /// `vector` is absent or no text.
@@ -27,4 +29,6 @@ pub enum Reason {
     BadLevel,
     /// `filter` is no text, or is too long, or spells no filter of the collection's columns.
     BadFilter,
+    /// `wait` is no truth value.
+    BadWait,
 }

@@ -155,6 +155,14 @@ fn the_other_answers_are_shown(rt: HostRuntime) -> Result<(), Fail> {
             Answer::Refused(Reason::NoVector),
             r#"{"answer":"refused","line":1,"reason":"NoVector"}"#,
         ),
+        (
+            Answer::Refused(Reason::BadCaller),
+            r#"{"answer":"refused","line":1,"reason":"BadCaller"}"#,
+        ),
+        (
+            Answer::Refused(Reason::BadWait),
+            r#"{"answer":"refused","line":1,"reason":"BadWait"}"#,
+        ),
     ] {
         let mut text = line(rt.alloc(), 1, &answer)?;
         assert_eq!(rt; text.pop(), Some(b'\n'));

@@ -21,6 +21,7 @@ fn name(reason: Reason) -> &'static str
         Reason::BadOp => "BadOp",
         Reason::LateCreate => "LateCreate",
         Reason::UnknownMember => "UnknownMember",
+        Reason::BadCaller => "BadCaller",
         Reason::BadKey => "BadKey",
         Reason::NoVector => "NoVector",
         Reason::BadVector => "BadVector",
@@ -28,6 +29,7 @@ fn name(reason: Reason) -> &'static str
         Reason::BadK => "BadK",
         Reason::BadLevel => "BadLevel",
         Reason::BadFilter => "BadFilter",
+        Reason::BadWait => "BadWait",
     }
 }
 

@@ -5,8 +5,6 @@
 #[cfg(test)]
 mod fronts;
 #[cfg(test)]
-mod holds;
-#[cfg(test)]
 mod lines;
 #[cfg(test)]
 mod looks;

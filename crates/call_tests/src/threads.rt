@@ -4,10 +4,10 @@ ghost use Rattle.std.specs.Prelude.{◌≡◌, All};
 ghost use Rattle.shard_calls.specs.Fronts.{IsReady};
 
 use crate::fronts::two_channels;
-use crate::holds::Hold;
 use crate::lines::serve_all;
 use crate::steps::Step;
 use hybrid_time::Level;
+use line_gates::Hold;
 use manu_edge::{At, Gate, OpenGate};
 use row_types::Memory;
 use shard_calls::Front;

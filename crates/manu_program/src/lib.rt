@@ -10,10 +10,14 @@ use row_types::Text;
 use std::env;
 use std::io::ErrorKind;
 use std::process::ExitCode;
+use std::sync::Wait;
+use std::thread::Threads;
 
-/// The whole program, from the words of the command line to the number that it ends by.
-pub fn run(rt: &HostRuntime) -> ExitCode {
-    let status = served(rt);
+/// The whole program, from the words of the command line to the number that it ends by. `rt` gives the
+/// words, the streams, the clock and memory; callers run on `threads`, which `main` gives from the same
+/// runtime.
+pub fn run<T: Threads + Wait + Sync>(rt: &HostRuntime, threads: &T) -> ExitCode {
+    let status = served(rt, threads);
     if let Some(text) = status.text() {
         // Standard error that can't be written leaves the status alone to tell.
         let _ = eprintln!(rt; "{text}");
@@ -21,7 +25,7 @@ pub fn run(rt: &HostRuntime) -> ExitCode {
     ExitCode::from(status.number())
 }
 
-fn served(rt: &HostRuntime) -> Status {
+fn served<T: Threads + Wait + Sync>(rt: &HostRuntime, threads: &T) -> Status {
     let words = match read_arguments(rt) {
         Ok(words) => words,
         Err(status) => return status,
@@ -32,7 +36,7 @@ fn served(rt: &HostRuntime) -> Status {
     let mut output = StandardOutput::new(rt.stdout());
     let clock = SystemClock::new(rt);
     let Ended { status, keeper: _ } = serve(
-        rt,
+        threads,
         alloc,
         &words,
         &mut input,

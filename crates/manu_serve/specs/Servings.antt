@@ -1,7 +1,8 @@
 -- What a run promises, by how it ends.
-use Rattle.std.specs.Prelude.{◌≡◌, ◌⊎◌, ℕ, ◌≤◌, List, [], ◌∷◌, codes, take, Option, Some, IsSome, IfSome}
+use Rattle.std.specs.Prelude.{◌≡◌, ◌⊎◌, ℕ, ◌≤◌, List, [], ◌∷◌, codes, Option, Some, IfSome}
 use Rattle.std.specs.List.{AllByRecursion as Each}
 use Rattle.std.specs.Io.KnownBytes.{Appends}
+use Rattle.hybrid_time.specs.Times.{of_moment}
 use Rattle.coarse_lists.specs.declared.collections.Collection.{Collection}
 use Rattle.request_lines.specs.Headers.{header_of}
 use Rattle.input_lines.specs.Lines.{first_line}
@@ -10,6 +11,7 @@ use Rattle.legal_output.specs.Lines.{Line}
 use Rattle.legal_output.specs.Printed.{all_drawn}
 use Rattle.legal_output.specs.Legal.{IsLegal}
 use Rattle.legal_output.specs.Outputs.{asks_of, start_of, printed}
+use Rattle.phase_engine.specs.Outputs.{begins}
 
 abbrev pub running : List (List ℕ)
 running = codes "run" ∷ []
@@ -21,11 +23,17 @@ still = codes "run" ∷ codes "--still" ∷ []
 abbrev pub IsForm : List (List ℕ) → Type 0
 IsForm words = (words ≡ running) ⊎ (words ≡ still)
 
+-- no number below this one is drawn: the first of the least moment, where no word stands behind `run`
+abbrev pub first_in : List (List ℕ) → ℕ → ℕ
+first_in [] least = 0
+first_in (word ∷ []) least = of_moment least
+first_in (word ∷ other ∷ words) least = 0
+
 -- the source tells an input that keeps the limits and whose line 1 makes a collection
 pub record TellsGood (left : Option (List ℕ)) (input : List ℕ) : Type 0 where
   pub told : left ≡ Some input
   pub within : IsWithin input
-  pub header : IsSome (header_of (first_line input))
+  pub header : begins (first_line input)
 
 -- a legal output whose drawn numbers are none of them below `least`
 pub record IsLegalFrom (least : ℕ) (input output : List ℕ) : Type 0 where
@@ -39,7 +47,3 @@ pub record IsLegalFrom (least : ℕ) (input output : List ℕ) : Type 0 where
 -- what was written is such an output for what was left to read, where P says which
 abbrev pub WritesAll : (List ℕ → List ℕ → Type 0) → Option (List ℕ) → Option (List ℕ) → Option (List ℕ) → Type 0
 WritesAll P left before now = IfSome left (λ input. (output : List ℕ) × P input output × Appends before now output)
-
--- what was written is the beginning of such an output
-abbrev pub WritesFront : (List ℕ → List ℕ → Type 0) → Option (List ℕ) → Option (List ℕ) → Option (List ℕ) → Type 0
-WritesFront P left before now = IfSome left (λ input. (output : List ℕ) × P input output × ((n : ℕ) × Appends before now (take n output)))

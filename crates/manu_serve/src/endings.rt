@@ -1,7 +1,9 @@
 //! How a run ends.
 
-ghost use Rattle.std.specs.Prelude.{◌≡◌, option_map};
+ghost use Rattle.std.specs.Prelude.{◌≡◌, ◌≢◌, ◌↔◌, option_map, Ok, Err};
 ghost use Rattle.manu_serve.specs.Endings.{number_of, said_of};
+
+use phase_reading::Stop;
 
 /// How a run ended.
 #[derive(Debug, Clone, Copy, PartialEq, Eq)]
@@ -58,4 +60,24 @@ impl Status {
 pub struct Ended<K> {
     pub status: Status,
     pub keeper: K,
+}
+
+// The status that a reading ends by.
+pub(crate) fn status_of(ended: Result<(), Stop>) -> Status
+    ensures done { (result ≡ Status.Done) ↔ (ended ≡ Ok tt) }
+    ensures bad_header { (result ≡ Status.BadHeader) ↔ (ended ≡ Err Stop.BadHeader) }
+    ensures read_fault { (result ≡ Status.ReadFault) ↔ (ended ≡ Err Stop.ReadFault) }
+    ensures write_fault { (result ≡ Status.WriteFault) ↔ (ended ≡ Err Stop.WriteFault) }
+    ensures limit { (result ≡ Status.Limit) ↔ (ended ≡ Err Stop.Limit) }
+    ensures memory { (result ≡ Status.Memory) ↔ (ended ≡ Err Stop.Memory) }
+    ensures usage { result ≢ Status.Usage }
+{
+    match ended {
+        Ok(()) => Status::Done,
+        Err(Stop::BadHeader) => Status::BadHeader,
+        Err(Stop::ReadFault) => Status::ReadFault,
+        Err(Stop::WriteFault) => Status::WriteFault,
+        Err(Stop::Limit) => Status::Limit,
+        Err(Stop::Memory) => Status::Memory,
+    }
 }

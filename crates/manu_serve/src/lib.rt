@@ -5,12 +5,10 @@
 //! that were read and written, and none names a part within.
 #![tactic(auto)]
 
-mod answering;
 mod endings;
-mod reading;
+mod paces;
 mod serving;
 mod words;
-mod writing;
 
 pub use crate::endings::{Ended, Status};
 pub use crate::serving::serve;

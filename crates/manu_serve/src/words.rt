@@ -2,16 +2,8 @@
 
 ghost use Rattle.std.specs.Prelude.{◌≡◌, ◌↔◌, [], ◌∷◌, Some, codes};
 
+use crate::paces::Pace;
 use row_types::Text;
-
-/// Whether moments count.
-#[derive(Debug, Clone, Copy, PartialEq, Eq)]
-pub enum Pace {
-    /// Every moment is taken as 0, so that a run repeats.
-    Still,
-    /// Moments are read from the clock.
-    Moving,
-}
 
 /// The pace that the words ask for; `None` where they are neither `run` nor `run --still`.
 pub fn read_words(words: &[Text]) -> Option<Pace>

@@ -3,13 +3,17 @@
 ghost use Rattle.std.specs.declared.option.Option.TheVariants.{None};
 
 use crate::runs::{Given, joined, run, run_from};
-use manu_edge::{Failed, FixedMoments, Moments, Source};
+use manu_edge::{Failed, FixedMoments, Moments, OpenGate, Source};
 use manu_serve::Status;
 use std::alloc::Global;
-use std::cell::Cell;
+use std::sync::Wait;
+use std::sync::atomic::{AtomicU64, Ordering};
 use std::test::Fail;
+use std::thread::Threads;
 
 const CREATE: &str = "{\"op\":\"create\",\"dim\":8}";
+
+const CREATED: &str = "{\"answer\":\"created\",\"line\":1}";
 
 const INSERT: &str = "{\"op\":\"insert\",\"key\":1,\"vector\":\"0f\"}";
 
@@ -39,7 +43,7 @@ fn nothing_is_written_where_the_run_does_not_come_to_answers(rt: HostRuntime) ->
             failing_reads,
             failing_writes,
         };
-        let (status, output) = run(alloc, &given, &FixedMoments(0))?;
+        let (status, output) = run(&rt, alloc, &given, &FixedMoments(0))?;
         assert_eq!(rt; status, wanted);
         assert_eq!(rt; output.len(), 0);
     }
@@ -64,7 +68,12 @@ fn each_ending_has_its_number_and_its_text(rt: HostRuntime) {
 }
 
 // How a run of one insert ends, and what it writes, where these calls of its source and its sink fail.
-fn failing(alloc: Global, reads: &[u32], writes: &[u32]) -> Result<(Status, Vec<u8>), Fail> {
+fn failing<R: Threads + Wait + Sync>(
+    rt: &R,
+    alloc: Global,
+    reads: &[u32],
+    writes: &[u32],
+) -> Result<(Status, Vec<u8>), Fail> {
     let input = joined(alloc, &[CREATE, INSERT])?;
     let given = Given {
         words: &["run", "--still"],
@@ -72,38 +81,36 @@ fn failing(alloc: Global, reads: &[u32], writes: &[u32]) -> Result<(Status, Vec<
         failing_reads: reads,
         failing_writes: writes,
     };
-    run(alloc, &given, &FixedMoments(0))
+    run(rt, alloc, &given, &FixedMoments(0))
 }
 
-// The source is asked twice, for the input and for its end, and the output is written at once.
+// The source is asked twice, for the input and for its end. The output is written in two parts: the
+// answer to line 1 once it was read, and the rest at the end.
 #[test]
 fn a_fault_comes_exactly_where_a_call_fails(rt: HostRuntime) -> Result<(), Fail> {
     let alloc = rt.alloc();
+    let created = joined(alloc, &[CREATED])?;
     let whole = joined(
         alloc,
         &[
-            "{\"answer\":\"created\",\"line\":1}",
+            CREATED,
             "{\"answer\":\"ok\",\"line\":2,\"ts\":1}",
             "{\"answer\":\"end\",\"failed\":0,\"live\":1,\"node_live\":0,\"node_rows\":0,\"tail\":1,\"ts\":2,\"waiting\":0}",
         ],
     )?;
-    for call in 1..=8 {
-        let (status, output) = failing(alloc, &[call], &[])?;
-        if call > 2 {
-            assert_eq!(rt; status, Status::Done);
-            assert_eq!(rt; output.as_slice(), whole.as_slice());
-        } else {
-            assert_eq!(rt; status, Status::ReadFault);
-            assert_eq!(rt; output.len(), 0);
-        }
-        let (status, output) = failing(alloc, &[], &[call])?;
-        if call > 1 {
-            assert_eq!(rt; status, Status::Done);
-            assert_eq!(rt; output.as_slice(), whole.as_slice());
-        } else {
-            assert_eq!(rt; status, Status::WriteFault);
-            assert_eq!(rt; output.len(), 0);
-        }
+    let cases = [
+        (1, [].as_slice(), Status::ReadFault, Status::WriteFault),
+        (2, created.as_slice(), Status::ReadFault, Status::WriteFault),
+        (3, whole.as_slice(), Status::Done, Status::Done),
+        (4, whole.as_slice(), Status::Done, Status::Done),
+    ];
+    for (call, wanted, of_reads, of_writes) in cases {
+        let (status, output) = failing(&rt, alloc, &[call], &[])?;
+        assert_eq!(rt; status, of_reads);
+        assert_eq!(rt; output.as_slice(), wanted);
+        let (status, output) = failing(&rt, alloc, &[], &[call])?;
+        assert_eq!(rt; status, of_writes);
+        assert_eq!(rt; output.as_slice(), wanted);
     }
     Ok(())
 }
@@ -131,7 +138,11 @@ impl Source for Drops<'_> {
 }
 
 // How a run ends that is given its input a byte at a time, and how many bytes it took.
-fn drop_by_drop(alloc: Global, lines: &[&str]) -> Result<(Status, usize), Fail> {
+fn drop_by_drop<R: Threads + Wait + Sync>(
+    rt: &R,
+    alloc: Global,
+    lines: &[&str],
+) -> Result<(Status, usize), Fail> {
     let input = joined(alloc, lines)?;
     let given = Given {
         words: &["run", "--still"],
@@ -143,51 +154,68 @@ fn drop_by_drop(alloc: Global, lines: &[&str]) -> Result<(Status, usize), Fail> 
         bytes: &input,
         given: 0,
     };
-    let (status, _) = run_from(alloc, &given, &mut source, &FixedMoments(0))?;
+    let (status, _) = run_from(rt, alloc, &given, &mut source, &FixedMoments(0), &OpenGate)?;
     Ok((status, source.given))
 }
 
 #[test]
 fn nothing_is_read_behind_a_bad_header(rt: HostRuntime) -> Result<(), Fail> {
-    let (status, taken) = drop_by_drop(rt.alloc(), &["{}", CREATE])?;
+    let (status, taken) = drop_by_drop(&rt, rt.alloc(), &["{}", CREATE])?;
     assert_eq!(rt; status, Status::BadHeader);
     assert_eq!(rt; taken, 3);
-    let (status, taken) = drop_by_drop(rt.alloc(), &[CREATE, "{"])?;
+    let (status, taken) = drop_by_drop(&rt, rt.alloc(), &[CREATE, "{"])?;
     assert_eq!(rt; status, Status::Done);
     assert_eq!(rt; taken, 26);
     Ok(())
 }
 
+// A line longer than a line may be.
+fn long_line(alloc: Global) -> Result<Vec<u8>, Fail> {
+    Ok(vec![in alloc; b' '; 2_097_153]?)
+}
+
+// What was answered of the phases before the line is written; the insert of the phase that is cut is not.
 #[test]
 fn a_line_that_is_too_long_passes_the_limit(rt: HostRuntime) -> Result<(), Fail> {
     let alloc = rt.alloc();
-    let mut input = joined(alloc, &[CREATE, INSERT])?;
-    let line = vec![in alloc; b' '; 2_097_153]?;
-    input.extend_from_slice(&line)?;
-    let given = Given {
-        words: &["run", "--still"],
-        input: &input,
-        failing_reads: &[],
-        failing_writes: &[],
-    };
-    let (status, output) = run(alloc, &given, &FixedMoments(0))?;
-    assert_eq!(rt; status, Status::Limit);
-    assert_eq!(rt; output.len(), 0);
+    let met = [CREATE, INSERT, "{\"op\":\"meet\"}", INSERT];
+    let answers = [
+        CREATED,
+        "{\"answer\":\"ok\",\"line\":2,\"ts\":1}",
+        "{\"answer\":\"met\",\"failed\":0,\"line\":3,\"live\":1,\"node_live\":0,\"node_rows\":0,\"tail\":1,\"ts\":2,\"waiting\":0}",
+    ];
+    let cases = [
+        ([CREATE, INSERT].as_slice(), [CREATED].as_slice()),
+        (&met, &answers),
+    ];
+    for (lines, wanted) in cases {
+        let mut input = joined(alloc, lines)?;
+        input.extend_from_slice(&long_line(alloc)?)?;
+        let given = Given {
+            words: &["run", "--still"],
+            input: &input,
+            failing_reads: &[],
+            failing_writes: &[],
+        };
+        let (status, output) = run(&rt, alloc, &given, &FixedMoments(0))?;
+        let wanted = joined(alloc, wanted)?;
+        assert_eq!(rt; status, Status::Limit);
+        assert_eq!(rt; output.as_slice(), wanted.as_slice());
+    }
     Ok(())
 }
 
 /// Tells 10,000 times the number of the call.
 #[derive(Drop)]
 struct Steps {
-    calls: Cell<u64>,
+    calls: AtomicU64,
 }
 
 impl Moments for Steps {
     ghost least = { λ _. 0 };
 
     fn now(&self) -> u64 {
-        let call = self.calls.get().saturating_add(1);
-        self.calls.set(call);
+        let call = self.calls.fetch_add(1, Ordering::SeqCst).saturating_add(1);
         call.saturating_mul(10_000)
     }
 }
@@ -202,7 +230,7 @@ fn each_request_reads_the_moment_anew(rt: HostRuntime) -> Result<(), Fail> {
         failing_reads: &[],
         failing_writes: &[],
     };
-    let (_, output) = run(alloc, &given, &FixedMoments(10_000))?;
+    let (_, output) = run(&rt, alloc, &given, &FixedMoments(10_000))?;
     let wanted = joined(
         alloc,
         &[
@@ -214,10 +242,11 @@ fn each_request_reads_the_moment_anew(rt: HostRuntime) -> Result<(), Fail> {
     )?;
     assert_eq!(rt; output.as_slice(), wanted.as_slice());
     let (_, output) = run(
+        &rt,
         alloc,
         &given,
         &Steps {
-            calls: Cell::new(0),
+            calls: AtomicU64::new(0),
         },
     )?;
     let wanted = joined(
@@ -244,9 +273,9 @@ fn a_refused_line_reads_no_moment(rt: HostRuntime) -> Result<(), Fail> {
         failing_writes: &[],
     };
     let moments = Steps {
-        calls: Cell::new(0),
+        calls: AtomicU64::new(0),
     };
-    let (_, output) = run(alloc, &given, &moments)?;
+    let (_, output) = run(&rt, alloc, &given, &moments)?;
     let wanted = joined(
         alloc,
         &[

@@ -3,11 +3,19 @@
 #![tactic(auto)]
 
 #[cfg(test)]
+mod asks;
+#[cfg(test)]
+mod callers;
+#[cfg(test)]
 mod cases;
+#[cfg(test)]
+mod checker;
 #[cfg(test)]
 mod endings;
 #[cfg(test)]
 mod examples;
+#[cfg(test)]
+mod random;
 #[cfg(test)]
 mod runs;
 #[cfg(test)]

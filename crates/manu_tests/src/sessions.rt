@@ -126,7 +126,7 @@ fn the_greatest_dimension_and_the_greatest_k(rt: HostRuntime) -> Result<(), Fail
         failing_reads: &[],
         failing_writes: &[],
     };
-    let (status, output) = run(alloc, &given, &FixedMoments(10_000))?;
+    let (status, output) = run(&rt, alloc, &given, &FixedMoments(10_000))?;
     let wanted = joined(
         alloc,
         &[
@@ -155,6 +155,7 @@ fn each_reason_is_given_where_it_holds(rt: HostRuntime) -> Result<(), Fail> {
             "{\"op\":\"fly\"}",
             "{\"op\":\"create\",\"dim\":8}",
             "{\"op\":\"tick\",\"x\":1}",
+            "{\"op\":\"tick\",\"caller\":16}",
             "{\"op\":\"delete\"}",
             "{\"op\":\"search\",\"k\":1}",
             "{\"op\":\"search\",\"vector\":\"0\",\"k\":1}",
@@ -162,6 +163,7 @@ fn each_reason_is_given_where_it_holds(rt: HostRuntime) -> Result<(), Fail> {
             "{\"op\":\"search\",\"vector\":\"00\",\"k\":0}",
             "{\"op\":\"search\",\"vector\":\"00\",\"k\":1,\"level\":\"strong\"}",
             "{\"op\":\"search\",\"vector\":\"00\",\"k\":1,\"filter\":\"key ==\"}",
+            "{\"op\":\"search\",\"vector\":\"00\",\"k\":1,\"wait\":1}",
         ],
         &[
             CREATED,
@@ -170,13 +172,15 @@ fn each_reason_is_given_where_it_holds(rt: HostRuntime) -> Result<(), Fail> {
             "{\"answer\":\"refused\",\"line\":4,\"reason\":\"BadOp\"}",
             "{\"answer\":\"refused\",\"line\":5,\"reason\":\"LateCreate\"}",
             "{\"answer\":\"refused\",\"line\":6,\"reason\":\"UnknownMember\"}",
-            "{\"answer\":\"refused\",\"line\":7,\"reason\":\"BadKey\"}",
-            "{\"answer\":\"refused\",\"line\":8,\"reason\":\"NoVector\"}",
-            "{\"answer\":\"refused\",\"line\":9,\"reason\":\"BadVector\"}",
-            "{\"answer\":\"refused\",\"line\":10,\"reason\":\"BadFields\"}",
-            "{\"answer\":\"refused\",\"line\":11,\"reason\":\"BadK\"}",
-            "{\"answer\":\"refused\",\"line\":12,\"reason\":\"BadLevel\"}",
-            "{\"answer\":\"refused\",\"line\":13,\"reason\":\"BadFilter\"}",
+            "{\"answer\":\"refused\",\"line\":7,\"reason\":\"BadCaller\"}",
+            "{\"answer\":\"refused\",\"line\":8,\"reason\":\"BadKey\"}",
+            "{\"answer\":\"refused\",\"line\":9,\"reason\":\"NoVector\"}",
+            "{\"answer\":\"refused\",\"line\":10,\"reason\":\"BadVector\"}",
+            "{\"answer\":\"refused\",\"line\":11,\"reason\":\"BadFields\"}",
+            "{\"answer\":\"refused\",\"line\":12,\"reason\":\"BadK\"}",
+            "{\"answer\":\"refused\",\"line\":13,\"reason\":\"BadLevel\"}",
+            "{\"answer\":\"refused\",\"line\":14,\"reason\":\"BadFilter\"}",
+            "{\"answer\":\"refused\",\"line\":15,\"reason\":\"BadWait\"}",
             "{\"answer\":\"end\",\"failed\":0,\"live\":0,\"node_live\":0,\"node_rows\":0,\"tail\":0,\"ts\":1,\"waiting\":0}",
         ],
     )?;

@@ -6,5 +6,5 @@ use manu_program::run;
 use std::process::ExitCode;
 
 fn main(rt: HostRuntime) -> ExitCode {
-    run(&rt)
+    run(&rt, &rt)
 }

@@ -43,9 +43,9 @@ impl Echo {
 impl Engine for Echo {
     ghost account = { λ echo done waiting output. IsEchoing echo.waiting.items done waiting output };
 
-    ghost stopped = { IsEcho };
+    ghost stopped = { λ echo. IsEcho };
 
-    ghost whole = { IsWholeEcho };
+    ghost whole = { λ echo. IsWholeEcho };
 
     ghost begins = { IsC };
 
@@ -55,6 +55,8 @@ impl Engine for Echo {
     ghost follows = { λ first second. first.phases ≤ second.phases };
 
     ghost stands = { λ echo done waiting output told. told.said };
+
+    ghost persists = { λ first second done output follows told. told };
 
     ghost stays = { λ echo. le_refl echo.phases };
 

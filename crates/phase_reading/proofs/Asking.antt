@@ -1,5 +1,5 @@
 -- What the calls of an engine require is there.
-use Rattle.std.proofs.Common.{◌≡◌, ℕ, ◌+◌, ◌<◌, ◌≤◌, Bool, true, false, List, [], ◌∷◌, ◌++◌, length, refl, sym, ap, ◌∙◌, subst, arith, append_assoc, length-append}
+use Rattle.std.proofs.Common.{◌≡◌, ℕ, ◌<◌, ◌≤◌, Bool, true, List, [], ◌∷◌, ◌++◌, length, sym, arith, length-append}
 use Rattle.input_lines.specs.declared.limits.TheConstants.{MAX_LINES}
 use Rattle.phase_reading.specs.Phases.{Meets, whole_lines}
 use Rattle.phase_reading.specs.Engines.{Account, CanTake, CanRun, CanEnd, Takes}

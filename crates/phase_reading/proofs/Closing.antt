@@ -1,10 +1,10 @@
 -- The end of a line.
-use Rattle.std.proofs.Common.{◌≡◌, inl, inr, ℕ, ◌+◌, ◌<◌, ◌≤◌, Bool, true, false, List, [], ◌∷◌, ◌++◌, length, refl, sym, ap, ◌∙◌, subst, arith, Option, append-nil, append_assoc, length-append}
+use Rattle.std.proofs.Common.{◌≡◌, inl, ℕ, ◌+◌, ◌<◌, ◌≤◌, true, false, List, [], ◌∷◌, ◌++◌, length, refl, sym, ap, ◌∙◌, subst, arith, Option, append-nil, append_assoc, length-append}
 use Rattle.std.specs.Io.KnownBytes.{Appends}
 use Rattle.input_lines.specs.declared.limits.TheConstants.{MAX_INPUT, MAX_LINES}
 use Rattle.input_lines.specs.Lines.{lines_of}
 use Rattle.input_lines.specs.Limits.{IsWithin}
-use Rattle.phase_reading.specs.Phases.{Begins, Meets, ended_lines, whole_lines, joined}
+use Rattle.phase_reading.specs.Phases.{Begins, Meets, ended_lines, joined}
 use Rattle.phase_reading.specs.Engines.{Account, Answers, CanTake, CanRun, AnswersFirst, Takes, AnswersPhase}
 use Rattle.phase_reading.specs.Outputs.{AppendsFront, OfPhases}
 use Rattle.phase_reading.specs.Steps.{meets_behind, IsSoFar, Writes, Fails, Halts, Stops}

@@ -1,5 +1,5 @@
 -- Where a limit is passed, and what was written by then.
-use Rattle.std.proofs.Common.{◌≡◌, ◌⊎◌, inl, inr, ℕ, zero, suc, ◌+◌, ◌-◌, ◌<◌, ◌≤◌, ◌==◌, false, List, [], ◌∷◌, ◌++◌, length, take, refl, sym, ap, ◌∙◌, subst, arith, Option, append-nil, zero-add, append_assoc, length-append}
+use Rattle.std.proofs.Common.{◌≡◌, inl, inr, ℕ, suc, ◌+◌, ◌-◌, ◌<◌, ◌≤◌, ◌==◌, false, List, [], ◌∷◌, ◌++◌, length, take, refl, sym, ap, ◌∙◌, subst, arith, Option, append-nil, zero-add, append_assoc, length-append}
 use Rattle.std.specs.List.{AllByRecursion}
 use Rattle.std.specs.Io.KnownBytes.{Appends}
 use Rattle.input_lines.specs.declared.limits.TheConstants.{MAX_INPUT, MAX_LINE, MAX_LINES}
@@ -8,7 +8,7 @@ use Rattle.input_lines.specs.Limits.{IsShort, IsWithin}
 use Rattle.phase_reading.specs.Phases.{Begins, Meets, ended_lines, whole_lines, IsBegun, IsCut, joined}
 use Rattle.phase_reading.specs.Engines.{Account, Answers}
 use Rattle.phase_reading.specs.Outputs.{AppendsFront, WritesStopped, WritesLimited, OfPhases}
-use Rattle.phase_reading.specs.Steps.{IsOpen, IsLine, IsSoFar, Halts, Stops}
+use Rattle.phase_reading.specs.Steps.{IsOpen, IsLine, IsSoFar, Stops}
 use Rattle.phase_reading.specs.declared.stops.Stop.{Stop}
 use Rattle.phase_reading.proofs.Splits.{open-append, open-parts, cut_at, some_line, long_first, lines_of-joined, lines_of-open, each-append, each-behind, whole-again, begun_all}
 use Rattle.phase_reading.proofs.Steps.{grown, lines_now, ended_now, whole_now}

@@ -1,6 +1,6 @@
 -- How a run ends, in what the source had left.
-use Rattle.std.proofs.Common.{◌≡◌, ◌⊎◌, inl, inr, ℕ, ◌+◌, ◌<◌, ◌≤◌, List, [], ◌∷◌, ◌++◌, length, take, drop, refl, sym, ap, ◌∙◌, subst, arith, Option, Some, None, Ok, Err, append-nil, append_assoc, length-append, length-drop}
-use Rattle.std.specs.Prelude.{IfSome, IfErr}
+use Rattle.std.proofs.Common.{◌≡◌, inl, inr, ℕ, ◌<◌, ◌≤◌, List, [], ◌∷◌, ◌++◌, length, take, drop, sym, ap, ◌∙◌, subst, arith, Option, Some, None, Err, append-nil, length-drop}
+use Rattle.std.specs.Prelude.{IfErr}
 use Rattle.std.specs.declared.result.Result.{Result}
 use Rattle.std.specs.Io.KnownBytes.{Appends, Consumes, IsAtEnd}
 use Rattle.std.proofs.lemmas.List.{take-append-drop}
@@ -8,8 +8,8 @@ use Rattle.input_lines.specs.Lines.{first_line}
 use Rattle.input_lines.specs.Limits.{IsWithin}
 use Rattle.phase_reading.specs.Phases.{Begins, Meets, ended_lines, all_lines, IsBegun}
 use Rattle.phase_reading.specs.Engines.{Answers}
-use Rattle.phase_reading.specs.Outputs.{AppendsFront, WritesLimited, OfPhases, OfWhole, OfLinesWithin, BeginsBadly}
-use Rattle.phase_reading.specs.Outcomes.{HasBadHeader, IsReadWhole, StopsAtFault, StopsInPiece, OfRun, WritesFront, HasStopped, HasDone}
+use Rattle.phase_reading.specs.Outputs.{OfWhole}
+use Rattle.phase_reading.specs.Outcomes.{HasBadHeader, IsReadWhole, StopsInPiece, HasStopped, HasDone}
 use Rattle.phase_reading.specs.Steps.{Halts, Stops, Ends}
 use Rattle.phase_reading.specs.declared.stops.Stop.{Stop}
 use Rattle.phase_reading.specs.declared.stops.Stop.TheVariants.{BadHeader, ReadFault, WriteFault, Limit, Memory}

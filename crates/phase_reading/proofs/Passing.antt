@@ -1,12 +1,12 @@
 -- A limit that was passed, in the words of the whole input.
-use Rattle.std.proofs.Common.{◌≡◌, ℕ, ◌+◌, ◌<◌, ◌≤◌, ◌==◌, Bool, true, false, if◌then◌else◌, List, [], ◌∷◌, ◌++◌, length, refl, sym, ap, ◌∙◌, subst, arith, Option, Some, None, append-nil, append_assoc, length-append}
+use Rattle.std.proofs.Common.{◌≡◌, ℕ, ◌≤◌, ◌==◌, Bool, true, false, if◌then◌else◌, List, [], ◌∷◌, ◌++◌, length, refl, sym, ap, ◌∙◌, subst, arith, Option, Some, None, append_assoc, length-append}
 use Rattle.std.specs.List.{AllByRecursion}
 use Rattle.std.specs.Prelude.{IfSome}
 use Rattle.std.proofs.lemmas.Bool.Decides.{nat_tests}
-use Rattle.input_lines.specs.declared.limits.TheConstants.{MAX_INPUT, MAX_LINE, MAX_LINES}
+use Rattle.input_lines.specs.declared.limits.TheConstants.{MAX_LINE, MAX_LINES}
 use Rattle.input_lines.specs.Lines.{lines_of, first_line, first_or_empty}
 use Rattle.input_lines.specs.Limits.{IsShort, IsWithin}
-use Rattle.phase_reading.specs.Phases.{Begins, Meets, ended_lines, onto_ended, all_lines, IsBegun, IsCut}
+use Rattle.phase_reading.specs.Phases.{Begins, Meets, ended_lines, onto_ended, IsBegun}
 use Rattle.phase_reading.specs.Engines.{Answers}
 use Rattle.phase_reading.specs.Outputs.{WritesLimited}
 use Rattle.phase_reading.specs.Outcomes.{PassesLimit}

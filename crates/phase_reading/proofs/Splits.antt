@@ -1,7 +1,7 @@
 -- Lines and their bytes.
-use Rattle.std.proofs.Common.{◌≡◌, ◌≢◌, ◌⊎◌, inl, inr, ℕ, zero, suc, ◌+◌, ◌-◌, ◌<◌, ◌≤◌, ◌==◌, Bool, true, false, List, [], ◌∷◌, ◌++◌, length, get_or, take, drop, if◌then◌else◌, refl, sym, ap, ◌∙◌, subst, arith, append-nil, append_assoc, length-append}
+use Rattle.std.proofs.Common.{◌≡◌, ◌≢◌, ◌⊎◌, inl, inr, ℕ, zero, suc, ◌<◌, ◌≤◌, ◌==◌, Bool, true, false, List, [], ◌∷◌, ◌++◌, length, get_or, if◌then◌else◌, refl, sym, ap, ◌∙◌, arith, append-nil, append_assoc}
 use Rattle.std.specs.List.{AllByRecursion}
-use Rattle.input_lines.specs.Lines.{lines_of, onto_first, first_line, other_lines, first_or_empty, behind_first}
+use Rattle.input_lines.specs.Lines.{lines_of, onto_first, first_line, first_or_empty, behind_first}
 use Rattle.std.proofs.lemmas.Bool.Decides.{nat_tests}
 use Rattle.phase_reading.specs.Phases.{Begins, Meets, ended_lines, onto_ended, all_lines, keep, through_meet, whole_lines, IsBegun, joined}
 use Rattle.phase_reading.specs.Steps.{meets_behind, IsOpen, IsLine}

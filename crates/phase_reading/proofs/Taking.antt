@@ -3,10 +3,9 @@ use Rattle.std.proofs.Common.{◌≡◌, ◌⊎◌, inl, inr, ℕ, ◌+◌, ◌<
 use Rattle.std.specs.Io.KnownBytes.{Appends}
 use Rattle.std.specs.List.{AllByRecursion}
 use Rattle.input_lines.specs.declared.limits.TheConstants.{MAX_INPUT, MAX_LINE, MAX_LINES}
-use Rattle.input_lines.specs.Limits.{IsWithin}
 use Rattle.phase_reading.specs.Phases.{Begins, Meets, ended_lines, all_lines, joined}
 use Rattle.phase_reading.specs.Engines.{Account, Answers, CanEnd, AnswersEnd}
-use Rattle.phase_reading.specs.Outputs.{AppendsFront, WritesLimited, OfPhases, OfWhole}
+use Rattle.phase_reading.specs.Outputs.{WritesLimited, OfWhole}
 use Rattle.phase_reading.specs.Steps.{IsOpen, IsLine, IsSoFar, Writes, Fails, Halts, Stops, Ends}
 use Rattle.phase_reading.specs.declared.stops.Stop.{Stop}
 use Rattle.phase_reading.specs.declared.stops.Stop.TheVariants.{BadHeader, ReadFault, WriteFault, Limit, Memory}

@@ -1,5 +1,5 @@
 -- What was written, of a stopped output or of a whole one.
-use Rattle.std.specs.Prelude.{◌≡◌, ℕ, List, [], ◌∷◌, ◌++◌, take, Option}
+use Rattle.std.specs.Prelude.{◌≡◌, ℕ, List, ◌∷◌, ◌++◌, take, Option}
 use Rattle.std.specs.Io.KnownBytes.{Appends}
 use Rattle.input_lines.specs.Limits.{IsShort, IsWithin}
 use Rattle.phase_reading.specs.Phases.{Begins, Meets, ended_lines, all_lines, whole_lines, IsBegun, IsCut}

@@ -55,8 +55,8 @@ pub fn end_input<E: Engine, O: Sink>(engine: &mut E, sink: &mut O) -> Result<(),
     ensures follows { E.follows engine.old engine.new }
     ensures later { O.faults sink.old ≤ O.faults sink.new }
     ensures rose { IfErr result (λ stop. stop ≡ Stop.WriteFault → Rose (O.faults sink.old) (O.faults sink.new)) }
-    ensures ok { OnOk result (Writes (AnswersEnd (E.account engine.old) E.whole) (O.written sink.old) (O.written sink.new)) }
-    ensures err { IfErr result (λ stop. Fails (AnswersEnd (E.account engine.old) E.whole) ⊥ stop (O.written sink.old) (O.written sink.new)) }
+    ensures ok { OnOk result (Writes (AnswersEnd (E.account engine.old) (E.whole engine.new)) (O.written sink.old) (O.written sink.new)) }
+    ensures err { IfErr result (λ stop. Fails (AnswersEnd (E.account engine.old) (E.whole engine.new)) ⊥ stop (O.written sink.old) (O.written sink.new)) }
 {
     let text = match engine.end() {
         Ok(text) => text,

@@ -24,10 +24,10 @@ pub trait Engine {
     ghost account: { Self → List (List ℕ) → List (List ℕ) → List ℕ → Type 0 };
 
     // what is then known of the answered lines and of the text, whatever the engine does later
-    ghost stopped: { List (List ℕ) → List ℕ → Type 0 };
+    ghost stopped: { Self → List (List ℕ) → List ℕ → Type 0 };
 
-    // the same of all lines, and of a text that has its end line
-    ghost whole: { List (List ℕ) → List ℕ → Type 0 };
+    // the same of all lines, and of a text that has its end line, where the engine has ended so
+    ghost whole: { Self → List (List ℕ) → List ℕ → Type 0 };
 
     // line 1 makes a collection
     ghost begins: { List ℕ → Type 0 };
@@ -38,7 +38,9 @@ pub trait Engine {
     // what every call keeps, however it ends: the second engine may be what the first became
     ghost follows: { Self → Self → Type 0 };
 
-    ghost stands: { (engine : Self) (done waiting : List (List ℕ)) (output : List ℕ) → account engine done waiting output → stopped done output };
+    ghost stands: { (engine : Self) (done waiting : List (List ℕ)) (output : List ℕ) → account engine done waiting output → stopped engine done output };
+
+    ghost persists: { (first second : Self) (done : List (List ℕ)) (output : List ℕ) → follows first second → stopped first done output → stopped second done output };
 
     ghost stays: { (engine : Self) → follows engine engine };
 
@@ -66,6 +68,6 @@ pub trait Engine {
     /// Runs the lines that wait, which have no meet, and answers them and the end of the input.
     fn end(&mut self) -> Result<Vec<u8>, NoMemory>
         requires ready { CanEnd (account self.old) meets }
-        ensures answered { IfOk result (λ text. AnswersEnd (account self.old) whole text.items) }
+        ensures answered { IfOk result (λ text. AnswersEnd (account self.old) (whole self.new) text.items) }
         ensures follows { follows self.old self.new };
 }

@@ -53,7 +53,7 @@ impl Reading {
             → IsSoFar (E.account engine.new) E.begins E.meets before (O.written sink.new) (all ++ piece.now) after.last.items after.lines) }
         ensures ended { IfErr result (λ stop. (before : Option (List ℕ)) (all : List ℕ) → length all + length piece.now ≤ MAX_INPUT
             → IsSoFar (E.account engine.old) E.begins E.meets before (O.written sink.old) all self.last.items self.lines
-            → Stops E.stopped E.begins E.meets stop (all ++ piece.now) before (O.written sink.new)) }
+            → Stops (E.stopped engine.new) E.begins E.meets stop (all ++ piece.now) before (O.written sink.new)) }
     {
         let mut reading = self;
         let mut rest = piece;
@@ -93,7 +93,7 @@ impl Reading {
             → IsSoFar (E.account engine.new) E.begins E.meets before (O.written sink.new) (all ++ piece.now) after.last.items after.lines) }
         ensures ended { IfErr result (λ stop. (before : Option (List ℕ)) (all : List ℕ) → length all ≡ taken
             → IsSoFar (E.account engine.old) E.begins E.meets before (O.written sink.old) all self.last.items self.lines
-            → Stops E.stopped E.begins E.meets stop (all ++ piece.now) before (O.written sink.new)) }
+            → Stops (E.stopped engine.new) E.begins E.meets stop (all ++ piece.now) before (O.written sink.new)) }
     {
         let room = MAX_INPUT - taken;
         if piece.len() <= room {
@@ -115,10 +115,10 @@ impl Reading {
         ensures rose { IfErr result (λ stop. stop ≡ Stop.WriteFault → Rose (O.faults sink.old) (O.faults sink.new)) }
         ensures done { OnOk result ((before : Option (List ℕ)) (all : List ℕ)
             → IsSoFar (E.account engine.old) E.begins E.meets before (O.written sink.old) all self.last.items self.lines
-            → E.begins (first_line all) × OfWhole E.whole all (Appends before (O.written sink.new))) }
+            → E.begins (first_line all) × OfWhole (E.whole engine.new) all (Appends before (O.written sink.new))) }
         ensures ended { IfErr result (λ stop. (before : Option (List ℕ)) (all : List ℕ)
             → IsSoFar (E.account engine.old) E.begins E.meets before (O.written sink.old) all self.last.items self.lines
-            → Ends E.stopped E.whole E.begins E.meets stop all before (O.written sink.new)) }
+            → Ends (E.stopped engine.new) (E.whole engine.new) E.begins E.meets stop all before (O.written sink.new)) }
     {
         match self.close_last(engine, sink) {
             Ok(()) => {}
@@ -139,7 +139,7 @@ impl Reading {
             → (closed : List ℕ) × (lines : ℕ) × (all_lines all ≡ ended_lines closed) × (0 < lines) × IsSoFar (E.account engine.new) E.begins E.meets before (O.written sink.new) closed [] lines) }
         ensures ended { IfErr result (λ stop. (before : Option (List ℕ)) (all : List ℕ)
             → IsSoFar (E.account engine.old) E.begins E.meets before (O.written sink.old) all self.last.items self.lines
-            → Halts E.stopped E.begins E.meets stop (all_lines all) before (O.written sink.new)) }
+            → Halts (E.stopped engine.new) E.begins E.meets stop (all_lines all) before (O.written sink.new)) }
     {
         if self.lines > 0 && self.last.is_empty() {
             return Ok(());
@@ -165,7 +165,7 @@ impl Reading {
             → IsSoFar (E.account engine.new) E.begins E.meets before (O.written sink.new) ((all ++ tail.now) ++ 10 ∷ []) after.last.items after.lines) }
         ensures ended { IfErr result (λ stop. (before : Option (List ℕ)) (all : List ℕ) → length all + (length tail.now + 1) ≤ MAX_INPUT
             → IsSoFar (E.account engine.old) E.begins E.meets before (O.written sink.old) all self.last.items self.lines
-            → Stops E.stopped E.begins E.meets stop ((all ++ tail.now) ++ 10 ∷ []) before (O.written sink.new)) }
+            → Stops (E.stopped engine.new) E.begins E.meets stop ((all ++ tail.now) ++ 10 ∷ []) before (O.written sink.new)) }
     {
         if self.last.is_empty() {
             return self.end_whole(engine, sink, tail);
@@ -196,7 +196,7 @@ impl Reading {
             → IsSoFar (E.account engine.new) E.begins E.meets before (O.written sink.new) ((all ++ line.now) ++ 10 ∷ []) after.last.items after.lines) }
         ensures ended { IfErr result (λ stop. (before : Option (List ℕ)) (all : List ℕ) → length all + (length line.now + 1) ≤ MAX_INPUT
             → IsSoFar (E.account engine.old) E.begins E.meets before (O.written sink.old) all [] self.lines
-            → Stops E.stopped E.begins E.meets stop ((all ++ line.now) ++ 10 ∷ []) before (O.written sink.new)) }
+            → Stops (E.stopped engine.new) E.begins E.meets stop ((all ++ line.now) ++ 10 ∷ []) before (O.written sink.new)) }
     {
         let Reading { last, lines } = self;
         match check_limits(lines, 0, line) {
@@ -226,7 +226,7 @@ impl Reading {
             → IsSoFar (E.account engine.new) E.begins E.meets before (O.written sink.new) (all ++ 10 ∷ []) after.last.items after.lines) }
         ensures ended { IfErr result (λ stop. (before : Option (List ℕ)) (all : List ℕ)
             → IsSoFar (E.account engine.old) E.begins E.meets before (O.written sink.old) all self.last.items self.lines
-            → Halts E.stopped E.begins E.meets stop (ended_lines (all ++ 10 ∷ [])) before (O.written sink.new)) }
+            → Halts (E.stopped engine.new) E.begins E.meets stop (ended_lines (all ++ 10 ∷ [])) before (O.written sink.new)) }
     {
         let Reading { mut last, lines } = self;
         answer_line(engine, sink, &last, lines)?;
@@ -288,7 +288,7 @@ fn answer_line<E: Engine, O: Sink>(
         → IsSoFar (E.account engine.new) E.begins E.meets before (O.written sink.new) (all ++ 10 ∷ []) [] (lines + 1)) }
     ensures ended { IfErr result (λ stop. (before : Option (List ℕ)) (all : List ℕ)
         → IsSoFar (E.account engine.old) E.begins E.meets before (O.written sink.old) all line.now lines
-        → Halts E.stopped E.begins E.meets stop (ended_lines (all ++ 10 ∷ [])) before (O.written sink.new)) }
+        → Halts (E.stopped engine.new) E.begins E.meets stop (ended_lines (all ++ 10 ∷ [])) before (O.written sink.new)) }
 {
     if lines == 0 {
         return begin_line(engine, sink, line);

@@ -29,7 +29,7 @@ pub fn serve<E: Engine, S: Source, O: Sink>(
     sink: &mut O,
 ) -> Result<(), Stop>
     requires fresh { E.account engine.old [] [] [] }
-    ensures done { OnOk result (HasDone E.whole E.begins (S.left source.old) (O.written sink.old) (O.written sink.new)) }
+    ensures done { OnOk result (HasDone (E.whole engine.new) E.begins (S.left source.old) (O.written sink.old) (O.written sink.new)) }
     ensures within { OnOk result (IsReadWhole (S.left source.old) (S.left source.new)) }
     ensures complete { ¬ Rose (S.faults source.old) (S.faults source.new) → ¬ Rose (O.faults sink.old) (O.faults sink.new)
         → (input : List ℕ) → S.left source.old ≡ Some input → IsWithin input → E.begins (first_line input) → (result ≡ Ok tt) ⊎ (result ≡ Err Stop.Memory) }
@@ -40,17 +40,17 @@ pub fn serve<E: Engine, S: Source, O: Sink>(
     ensures write_fault { result ≡ Err Stop.WriteFault → Rose (O.faults sink.old) (O.faults sink.new) }
 
     ensures read_so_far { result ≡ Err Stop.ReadFault
-        → StopsAtFault E.stopped E.begins E.meets (S.left source.old) (S.left source.new) (O.written sink.old) (O.written sink.new) }
+        → StopsAtFault (E.stopped engine.new) E.begins E.meets (S.left source.old) (S.left source.new) (O.written sink.old) (O.written sink.new) }
     ensures read_no_further { StopsInPiece E.begins (S.left source.old) (S.left source.new) }
     ensures bounded_reading { TakesAtMost 67_108_865 (S.left source.old) (S.left source.new) }
 
     ensures nothing_written { result ≡ Err Stop.BadHeader → Appends (O.written sink.old) (O.written sink.new) [] }
     ensures phases_written { result ≡ Err Stop.Limit
-        → IfSome (S.left source.old) (λ input. WritesLimited E.stopped E.begins E.meets input (O.written sink.old) (O.written sink.new)) }
+        → IfSome (S.left source.old) (λ input. WritesLimited (E.stopped engine.new) E.begins E.meets input (O.written sink.old) (O.written sink.new)) }
     ensures some_phases_written { result ≡ Err Stop.Memory
-        → IfSome (S.left source.old) (λ input. OfRun E.stopped E.meets input (Appends (O.written sink.old) (O.written sink.new))) }
+        → IfSome (S.left source.old) (λ input. OfRun (E.stopped engine.new) E.meets input (Appends (O.written sink.old) (O.written sink.new))) }
     ensures prefix_written { result ≡ Err Stop.WriteFault
-        → IfSome (S.left source.old) (λ input. WritesFront E.stopped E.whole E.meets input (O.written sink.old) (O.written sink.new)) }
+        → IfSome (S.left source.old) (λ input. WritesFront (E.stopped engine.new) (E.whole engine.new) E.meets input (O.written sink.old) (O.written sink.new)) }
     ensures given_back { E.follows engine.old engine.new }
 {
     run(alloc, engine, source, sink)
@@ -64,9 +64,9 @@ fn run<E: Engine, S: Source, O: Sink>(
     sink: &mut O,
 ) -> Result<(), Stop>
     requires fresh { E.account engine.old [] [] [] }
-    ensures done { OnOk result (HasDone E.whole E.begins (S.left source.old) (O.written sink.old) (O.written sink.new)) }
+    ensures done { OnOk result (HasDone (E.whole engine.new) E.begins (S.left source.old) (O.written sink.old) (O.written sink.new)) }
     ensures within { OnOk result (IsReadWhole (S.left source.old) (S.left source.new)) }
-    ensures stopped { IfErr result (λ stop. HasStopped E.stopped E.whole E.begins E.meets stop (S.left source.old) (S.left source.new) (O.written sink.old) (O.written sink.new)) }
+    ensures stopped { IfErr result (λ stop. HasStopped (E.stopped engine.new) (E.whole engine.new) E.begins E.meets stop (S.left source.old) (S.left source.new) (O.written sink.old) (O.written sink.new)) }
     ensures read_fault { IfErr result (λ stop. stop ≡ Stop.ReadFault → Rose (S.faults source.old) (S.faults source.new)) }
     ensures write_fault { IfErr result (λ stop. stop ≡ Stop.WriteFault → Rose (O.faults sink.old) (O.faults sink.new)) }
     ensures in_piece { StopsInPiece E.begins (S.left source.old) (S.left source.new) }
@@ -90,9 +90,9 @@ fn read_pieces<E: Engine, S: Source, O: Sink>(
     requires some { 0 < length buffer.old }
     requires small { length buffer.old ≤ PIECE }
     requires fresh { E.account engine.old [] [] [] }
-    ensures done { OnOk result (HasDone E.whole E.begins (S.left source.old) (O.written sink.old) (O.written sink.new)) }
+    ensures done { OnOk result (HasDone (E.whole engine.new) E.begins (S.left source.old) (O.written sink.old) (O.written sink.new)) }
     ensures within { OnOk result (IsReadWhole (S.left source.old) (S.left source.new)) }
-    ensures stopped { IfErr result (λ stop. HasStopped E.stopped E.whole E.begins E.meets stop (S.left source.old) (S.left source.new) (O.written sink.old) (O.written sink.new)) }
+    ensures stopped { IfErr result (λ stop. HasStopped (E.stopped engine.new) (E.whole engine.new) E.begins E.meets stop (S.left source.old) (S.left source.new) (O.written sink.old) (O.written sink.new)) }
     ensures read_fault { IfErr result (λ stop. stop ≡ Stop.ReadFault → Rose (S.faults source.old) (S.faults source.new)) }
     ensures write_fault { IfErr result (λ stop. stop ≡ Stop.WriteFault → Rose (O.faults sink.old) (O.faults sink.new)) }
     ensures in_piece { StopsInPiece E.begins (S.left source.old) (S.left source.new) }

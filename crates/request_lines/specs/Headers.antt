@@ -13,12 +13,12 @@ use Rattle.coarse_lists.specs.declared.collections.Collection.{Collection}
 use Rattle.coarse_lists.specs.declared.collections.Index.TheVariants.{Flat}
 use Rattle.request_lines.specs.declared.refusals.HeaderError.{HeaderError}
 use Rattle.request_lines.specs.declared.refusals.HeaderError.TheVariants.{NotCreate, Memory}
-use Rattle.request_lines.specs.Json.{Line, line_of, at, text_at, integer_at, between, has_only, stated, named, named_by, onto}
+use Rattle.request_lines.specs.Json.{Line, line_of, at, text_at, integer_at, between, number_in, has_only, stated, named, named_by, onto}
 
 -- ---- the members of the header
 
 abbrev pub header_members : List (List ℕ)
-header_members = codes "op" ∷ codes "dim" ∷ codes "metric" ∷ codes "fields" ∷ []
+header_members = codes "op" ∷ codes "dim" ∷ codes "metric" ∷ codes "channels" ∷ codes "seal_rows" ∷ codes "fields" ∷ []
 
 -- whether `op` is `create`
 abbrev pub creates : Line → Bool
@@ -39,6 +39,14 @@ metrics = (codes "HAMMING", Hamming) ∷ (codes "JACCARD", Jaccard) ∷ []
 
 unfoldable pub metric_at : Line → Option Metric
 metric_at line = stated Hamming (named_by metrics) (at (codes "metric") line)
+
+-- 1 to 16, by default 1
+unfoldable pub channels_at : Line → Option ℕ
+channels_at line = stated 1 (number_in 1 16) (at (codes "channels") line)
+
+-- 2 to 65,536, by default 1,024
+unfoldable pub seal_rows_at : Line → Option ℕ
+seal_rows_at line = stated 1024 (number_in 2 65536) (at (codes "seal_rows") line)
 
 abbrev pub kinds : List (List ℕ × Kind)
 kinds = (codes "INT64", Int) ∷ (codes "BOOL", Truth) ∷ (codes "VARCHAR", Text) ∷ []
@@ -69,23 +77,27 @@ columns_at line = option_and_then allowed (stated_columns line)
 
 -- whether a line is a `create` line: it has no other members, and each of its members is as it has to be
 abbrev pub is_header : Line → Bool
-is_header line = has_only header_members line && creates line && is_some (dimension_at line) && is_some (metric_at line) && is_some (columns_at line)
+is_header line =
+    has_only header_members line && creates line && is_some (dimension_at line) && is_some (metric_at line) && is_some (channels_at line)
+    && is_some (seal_rows_at line) && is_some (columns_at line)
 
 -- all else by default
-abbrev pub collection_of : ℕ → Metric → Columns → Collection
-collection_of dim metric columns = record {
+abbrev pub collection_of : ℕ → Metric → ℕ → ℕ → Columns → Collection
+collection_of dim metric channels seal_rows columns = record {
   dim = dim;
   metric = metric;
-  channels = 1;
+  channels = channels;
   nodes = 1;
-  seal_rows = 1024;
+  seal_rows = seal_rows;
   index = Flat;
   schema = record { columns = columns };
 }
 
 -- The collection of a `create` line. What stands here beside its members is never taken: they are there.
 abbrev pub collection_in : Line → Collection
-collection_in line = collection_of (unwrap_or (dimension_at line) 0) (unwrap_or (metric_at line) Hamming) (unwrap_or (columns_at line) [])
+collection_in line =
+    collection_of (unwrap_or (dimension_at line) 0) (unwrap_or (metric_at line) Hamming) (unwrap_or (channels_at line) 0) (unwrap_or (seal_rows_at line) 0)
+    (unwrap_or (columns_at line) [])
 
 abbrev pub header_in : Line → Option Collection
 header_in line = if is_header line then Some (collection_in line) else None

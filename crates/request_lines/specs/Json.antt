@@ -38,6 +38,10 @@ abbrev pub between : ℕ → ℕ → ℤ → Option ℕ
 between low high (pos n) = if nat_le low n && nat_le n high then Some n else None
 between low high (negsuc n) = None
 
+-- the integer that a value is, where it is from `low` to `high`
+abbrev pub number_in : ℕ → ℕ → Data → Option ℕ
+number_in low high d = option_and_then (between low high) (integer_of d)
+
 -- whether each member has one of the names
 abbrev pub knows : List (List ℕ) → Members → Bool
 knows names no_members = true

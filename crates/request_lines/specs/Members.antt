@@ -1,11 +1,11 @@
 -- The values of the members of a request: each definition gives the value that the member has, or None
 -- where it has none that an operation takes.
-use Rattle.std.specs.Prelude.{ℕ, ℤ, ◌-◌, ◌^◌, ◌==◌, nat_le, Bool, List, [], ◌∷◌, length, Option, Some, None, option_and_then, option_map, if◌then◌else◌, codes}
+use Rattle.std.specs.Prelude.{ℕ, ℤ, ◌-◌, ◌^◌, ◌==◌, nat_le, Bool, true, List, [], ◌∷◌, length, Option, Some, None, option_and_then, option_map, if◌then◌else◌, codes}
 use Rattle.std.specs.List.{list_all}
 use Rattle.std.specs.Option.{option_flatten}
 use Rattle.std.specs.Result.{result_ok}
 use Rattle.serde_json.specs.Data.{Data, null, boolean, number, string, array, object, Members, no_members, member}
-use Rattle.serde_json.specs.Find.{as_i64, as_str, as_object}
+use Rattle.serde_json.specs.Find.{as_bool, as_i64, as_str, as_object}
 use Rattle.row_types.specs.Schemas.{Columns, Given, arranged}
 use Rattle.row_types.specs.Spelling.{vector_of}
 use Rattle.row_types.specs.declared.filters.Filter.{Filter}
@@ -14,7 +14,16 @@ use Rattle.row_types.specs.declared.rows.Field.TheVariants.{Int, Bool as Truth, 
 use Rattle.hybrid_time.specs.declared.levels.Level.{Level}
 use Rattle.hybrid_time.specs.declared.levels.Level.TheVariants.{Strong, Bounded, Session, Eventually}
 use Rattle.filter_expr.specs.Grammar.{filter_of}
-use Rattle.request_lines.specs.Json.{Line, at, text_at, integer_of, integer_at, between, stated, named, onto}
+use Rattle.request_lines.specs.Json.{Line, at, text_at, integer_at, between, number_in, stated, named, onto}
+
+-- ---- `caller`
+
+abbrev pub max_caller : ℕ
+max_caller = 15
+
+-- by default 0
+unfoldable pub caller_at : Line → Option ℕ
+caller_at line = stated 0 (number_in 0 max_caller) (at (codes "caller") line)
 
 -- ---- `key` and `vector`
 
@@ -75,7 +84,7 @@ k_at line = option_and_then (between 1 max_k) (integer_at (codes "k") line)
 -- ---- `level` and `delta_ms`
 
 abbrev pub milliseconds_of : Data → Option ℕ
-milliseconds_of d = option_and_then (between 0 (2 ^ 32 - 1)) (integer_of d)
+milliseconds_of d = number_in 0 (2 ^ 32 - 1) d
 
 -- by default 5,000
 abbrev pub stated_delta : Option Data → Option ℕ
@@ -114,3 +123,9 @@ filter_in columns text = if nat_le (length text) 4096 then (if is_blank text the
 -- by default no filter
 unfoldable pub filter_at : Columns → Line → Option (Option Filter)
 filter_at columns line = stated None (λ d. option_and_then (filter_in columns) (as_str d)) (at (codes "filter") line)
+
+-- ---- `wait`
+
+-- by default true
+unfoldable pub wait_at : Line → Option Bool
+wait_at line = stated true as_bool (at (codes "wait") line)

@@ -13,9 +13,9 @@ use Rattle.log_model.specs.declared.queries.Query.{Query}
 use Rattle.coarse_lists.specs.Collections.{IsRowOf}
 use Rattle.coarse_lists.specs.declared.collections.Collection.{Collection}
 use Rattle.answer_lines.specs.declared.reasons.Reason.{Reason}
-use Rattle.answer_lines.specs.declared.reasons.Reason.TheVariants.{NotJson, NotObject, BadOp, LateCreate, UnknownMember, BadKey, NoVector, BadVector, BadFields, BadK, BadLevel, BadFilter}
+use Rattle.answer_lines.specs.declared.reasons.Reason.TheVariants.{NotJson, NotObject, BadOp, LateCreate, UnknownMember, BadCaller, BadKey, NoVector, BadVector, BadFields, BadK, BadLevel, BadFilter, BadWait}
 use Rattle.request_lines.specs.declared.operations.Operation.{Operation}
-use Rattle.request_lines.specs.declared.operations.Operation.TheVariants.{Insert, Upsert, Delete, Search, Tick}
+use Rattle.request_lines.specs.declared.operations.Operation.TheVariants.{Insert, Upsert, Delete, Search, Get, Tick, Seal, Meet}
 use Rattle.request_lines.specs.declared.refusals.LineError.{LineError}
 use Rattle.request_lines.specs.declared.refusals.LineError.TheVariants.{Refused, Memory}
 use Rattle.request_lines.specs.declared.requests.Request.{Request}
@@ -23,23 +23,28 @@ use Rattle.request_lines.specs.declared.requests.Ask.{Ask}
 use Rattle.request_lines.specs.declared.requests.Ask.TheVariants as asks
 use Rattle.request_lines.specs.Headers.{creates}
 use Rattle.request_lines.specs.Json.{Line, line_of, members_in, text_at, has_only, named}
-use Rattle.request_lines.specs.Members.{key_at, vector_text_at, vector_at, fields_at, max_k, k_at, level_at, filter_at}
+use Rattle.request_lines.specs.Members.{caller_at, key_at, vector_text_at, vector_at, fields_at, max_k, k_at, level_at, filter_at, wait_at}
 
 -- ---- operations and their members
 
 abbrev pub operations : List (List ℕ × Operation)
-operations = (codes "insert", Insert) ∷ (codes "upsert", Upsert) ∷ (codes "delete", Delete) ∷ (codes "search", Search) ∷ (codes "tick", Tick) ∷ []
+operations =
+    (codes "insert", Insert) ∷ (codes "upsert", Upsert) ∷ (codes "delete", Delete) ∷ (codes "search", Search) ∷ (codes "get", Get)
+    ∷ (codes "tick", Tick) ∷ (codes "seal", Seal) ∷ (codes "meet", Meet) ∷ []
 
 unfoldable pub operation_at : Line → Option Operation
 operation_at line = option_and_then (named operations) (text_at (codes "op") line)
 
--- the members that an operation may have
+-- the members that an operation may have; a meet is no caller's
 abbrev pub members_of : Operation → List (List ℕ)
-members_of Insert = codes "op" ∷ codes "key" ∷ codes "vector" ∷ codes "fields" ∷ []
-members_of Upsert = codes "op" ∷ codes "key" ∷ codes "vector" ∷ codes "fields" ∷ []
-members_of Delete = codes "op" ∷ codes "key" ∷ []
-members_of Search = codes "op" ∷ codes "vector" ∷ codes "k" ∷ codes "level" ∷ codes "delta_ms" ∷ codes "filter" ∷ []
-members_of Tick = codes "op" ∷ []
+members_of Insert = codes "op" ∷ codes "caller" ∷ codes "key" ∷ codes "vector" ∷ codes "fields" ∷ []
+members_of Upsert = codes "op" ∷ codes "caller" ∷ codes "key" ∷ codes "vector" ∷ codes "fields" ∷ []
+members_of Delete = codes "op" ∷ codes "caller" ∷ codes "key" ∷ []
+members_of Search = codes "op" ∷ codes "caller" ∷ codes "vector" ∷ codes "k" ∷ codes "level" ∷ codes "delta_ms" ∷ codes "filter" ∷ codes "wait" ∷ []
+members_of Get = codes "op" ∷ codes "caller" ∷ codes "key" ∷ codes "level" ∷ codes "delta_ms" ∷ codes "wait" ∷ []
+members_of Tick = codes "op" ∷ codes "caller" ∷ []
+members_of Seal = codes "op" ∷ codes "caller" ∷ []
+members_of Meet = codes "op" ∷ []
 
 abbrev pub has : Operation → List ℕ → Bool
 has operation name = list_any (bytes_eq name) (members_of operation)
@@ -53,6 +58,7 @@ holds collection operation line NotObject = is_none (members_in line)
 holds collection operation line BadOp = is_none (operation_at line) && not (creates line)
 holds collection operation line LateCreate = creates line
 holds collection operation line UnknownMember = not (has_only (members_of operation) line)
+holds collection operation line BadCaller = has operation (codes "caller") && is_none (caller_at line)
 holds collection operation line BadKey = has operation (codes "key") && is_none (key_at line)
 holds collection operation line NoVector = has operation (codes "vector") && is_none (vector_text_at line)
 holds collection operation line BadVector = has operation (codes "vector") && is_none (vector_at collection.dim line)
@@ -60,10 +66,13 @@ holds collection operation line BadFields = has operation (codes "fields") && is
 holds collection operation line BadK = has operation (codes "k") && is_none (k_at line)
 holds collection operation line BadLevel = has operation (codes "level") && is_none (level_at line)
 holds collection operation line BadFilter = has operation (codes "filter") && is_none (filter_at collection.schema.columns line)
+holds collection operation line BadWait = has operation (codes "wait") && is_none (wait_at line)
 
 -- the reasons in their order
 abbrev pub reasons : List Reason
-reasons = NotJson ∷ NotObject ∷ BadOp ∷ LateCreate ∷ UnknownMember ∷ BadKey ∷ NoVector ∷ BadVector ∷ BadFields ∷ BadK ∷ BadLevel ∷ BadFilter ∷ []
+reasons =
+    NotJson ∷ NotObject ∷ BadOp ∷ LateCreate ∷ UnknownMember ∷ BadCaller ∷ BadKey ∷ NoVector ∷ BadVector ∷ BadFields ∷ BadK ∷ BadLevel ∷ BadFilter
+    ∷ BadWait ∷ []
 
 -- a reason that was found, or else a value
 abbrev pub refused_or : {T : Type 0} → Option Reason → T → Result T Reason
@@ -72,8 +81,13 @@ refused_or None value = Ok value
 
 -- ---- the request where no reason holds
 
--- What stands here beside members (the number 0, the empty list, Strong, no filter) is never taken: where no
+-- What stands here beside members (the number 0, the empty list, Strong, no filter, true) is never taken: where no
 -- reason holds, the members that an operation must have are there, and the others have a value.
+
+-- the caller; a meet has none, and 0 stands there
+abbrev pub caller_in : Line → Operation → ℕ
+caller_in line Meet = 0
+caller_in line operation = unwrap_or (caller_at line) 0
 
 abbrev pub key_in : Line → Key
 key_in line = record { 0 = unwrap_or (key_at line) (pos 0) }
@@ -95,16 +109,22 @@ query_in collection line = record {
 abbrev pub level_in : Line → Level
 level_in line = unwrap_or (level_at line) Strong
 
+abbrev pub wait_in : Line → Bool
+wait_in line = unwrap_or (wait_at line) true
+
 -- what each operation asks
 abbrev pub ask_in : Collection → Line → Operation → Ask
 ask_in collection line Insert = asks.Write (writes.Insert (row_in collection line))
 ask_in collection line Upsert = asks.Write (writes.Upsert (row_in collection line))
 ask_in collection line Delete = asks.Write (writes.Delete (key_in line))
-ask_in collection line Search = asks.Search (query_in collection line) (level_in line) true
+ask_in collection line Search = asks.Search (query_in collection line) (level_in line) (wait_in line)
+ask_in collection line Get = asks.Get (key_in line) (level_in line) (wait_in line)
 ask_in collection line Tick = asks.Tick
+ask_in collection line Seal = asks.Seal
+ask_in collection line Meet = asks.Meet
 
 abbrev pub request_in : Collection → Line → Operation → Request
-request_in collection line operation = record { caller = 0; what = ask_in collection line operation }
+request_in collection line operation = record { caller = caller_in line operation; what = ask_in collection line operation }
 
 -- ---- what a line is
 
@@ -139,11 +159,10 @@ FitsWrite collection (writes.Delete key) = Unit {0}
 abbrev pub FitsAsk : Collection → Ask → Type 0
 FitsAsk collection (asks.Write write) = FitsWrite collection write
 FitsAsk collection (asks.Search query level wait) = FitsQuery collection query
+FitsAsk collection (asks.Get key level wait) = Unit {0}
 FitsAsk collection asks.Tick = Unit {0}
--- no line is read as one of these yet
-FitsAsk collection (asks.Get key level wait) = ⊥
-FitsAsk collection asks.Seal = ⊥
-FitsAsk collection asks.Meet = ⊥
+FitsAsk collection asks.Seal = Unit {0}
+FitsAsk collection asks.Meet = Unit {0}
 
 abbrev pub Fits : Collection → Request → Type 0
 Fits collection request = FitsAsk collection request.what

@@ -3,17 +3,23 @@
 ghost use Rattle.std.specs.Prelude.{◌≡◌, Some, IsTrue, IfOk, IfErr, IfSome, option_map};
 ghost use Rattle.serde_json.specs.View.{view, items_view};
 ghost use Rattle.row_types.specs.Bits.{IsDimension};
-ghost use Rattle.coarse_lists.specs.Collections.{IsInRange};
+ghost use Rattle.coarse_lists.specs.Collections.{IsInRange, IsWithin};
 ghost use Rattle.coarse_lists.specs.Schemas.{is_schema};
-ghost use Rattle.request_lines.specs.Headers.{creates, dimension_of, dimension_at, metrics, metric_at, kinds, column_of, columns_of, stated_columns, columns_at, collection_of, header_in, header_of, RefusesHeader};
-ghost use Rattle.request_lines.specs.Json.{named};
+ghost use Rattle.request_lines.specs.Headers.{header_members, creates, dimension_of, dimension_at, metrics, metric_at, channels_at, seal_rows_at, kinds, column_of, columns_of, stated_columns, columns_at, collection_of, header_in, header_of, RefusesHeader};
+ghost use Rattle.request_lines.specs.Json.{named, has_only};
 
 use crate::refusals::HeaderError;
-use crate::values::{between, has_only, integer_at, read_value, text_at};
+use crate::values::{between, has_only, integer_at, number_or, read_value, text_at};
 use coarse_lists::{Collection, Index, is_schema};
 use row_types::{Kind, List, Memory, Metric, Schema, Text};
 use serde_json::Value;
 use std::alloc::Global;
+
+/// The most channels of a collection.
+const MAX_CHANNELS: u32 = 16;
+
+/// The most rows at which a tail becomes a segment.
+const MAX_SEAL_ROWS: u32 = 65_536;
 
 /// Whether `op` is `create`.
 pub fn creates(value: &Value) -> bool
@@ -59,6 +65,22 @@ fn metric_at(value: &Value) -> Option<Metric>
         Some(metric) => metric_of(metric.as_str()?),
         None => Some(Metric::Hamming),
     }
+}
+
+#[tactic(auto, unfolding(crate::specs::Headers::channels_at))]
+fn channels_at(value: &Value) -> Option<u32>
+    ensures same { result ≡ channels_at (Some (view value.now)) }
+    ensures within { IfSome result (IsWithin 1 16) }
+{
+    number_or(1, 1, MAX_CHANNELS, value.get("channels"))
+}
+
+#[tactic(auto, unfolding(crate::specs::Headers::seal_rows_at))]
+fn seal_rows_at(value: &Value) -> Option<u32>
+    ensures same { result ≡ seal_rows_at (Some (view value.now)) }
+    ensures within { IfSome result (IsWithin 2 65536) }
+{
+    number_or(1_024, 2, MAX_SEAL_ROWS, value.get("seal_rows"))
 }
 
 fn kind_of(name: &str) -> Option<Kind>
@@ -130,18 +152,34 @@ fn columns_at(alloc: Global, value: &Value) -> Result<Option<List<(Text, Kind)>>
     }
 }
 
-fn collection_of(dim: u32, metric: Metric, columns: List<(Text, Kind)>) -> Collection
-    ensures { result ≡ collection_of dim metric columns }
+fn collection_of(
+    dim: u32,
+    metric: Metric,
+    channels: u32,
+    seal_rows: u32,
+    columns: List<(Text, Kind)>,
+) -> Collection
+    ensures { result ≡ collection_of dim metric channels seal_rows columns }
 {
     Collection {
         dim,
         metric,
-        channels: 1,
+        channels,
         nodes: 1,
-        seal_rows: 1024,
+        seal_rows,
         index: Index::Flat,
         schema: Schema { columns },
     }
+}
+
+/// Whether a line has no other members than those of a header.
+fn has_members(value: &Value) -> bool
+    ensures { result ≡ has_only header_members (Some (view value.now)) }
+{
+    has_only(
+        value,
+        &["op", "dim", "metric", "channels", "seal_rows", "fields"],
+    )
 }
 
 fn header_in(alloc: Global, value: &Value) -> Result<Collection, HeaderError>
@@ -149,13 +187,15 @@ fn header_in(alloc: Global, value: &Value) -> Result<Collection, HeaderError>
     ensures err { IfErr result (RefusesHeader (header_in (Some (view value.now)))) }
     ensures in_range { IfOk result IsInRange }
 {
-    if !has_only(value, &["op", "dim", "metric", "fields"]) || !creates(value) {
+    if !has_members(value) || !creates(value) {
         return Err(HeaderError::NotCreate);
     }
     let dim = dimension_at(value).ok_or(HeaderError::NotCreate)?;
     let metric = metric_at(value).ok_or(HeaderError::NotCreate)?;
+    let channels = channels_at(value).ok_or(HeaderError::NotCreate)?;
+    let seal_rows = seal_rows_at(value).ok_or(HeaderError::NotCreate)?;
     let columns = columns_at(alloc, value)?.ok_or(HeaderError::NotCreate)?;
-    Ok(collection_of(dim, metric, columns))
+    Ok(collection_of(dim, metric, channels, seal_rows, columns))
 }
 
 /// The collection that line 1 makes. It is no `create` line exactly where the definition of a header

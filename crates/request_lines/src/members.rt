@@ -4,19 +4,30 @@
 ghost use Rattle.std.specs.Prelude.{◌≡◌, ◌≤◌, Some, length, option_map, IfOk, IfSome};
 ghost use Rattle.serde_json.specs.View.{view};
 ghost use Rattle.row_types.specs.Bits.{IsDimension};
-ghost use Rattle.request_lines.specs.Members.{key_at, vector_text_at, spelled, max_k, k_at, stated_delta, alone, level_of, level_at};
+ghost use Rattle.request_lines.specs.Members.{max_caller, caller_at, key_at, vector_text_at, spelled, max_k, k_at, stated_delta, alone, level_of, level_at, wait_at};
 
-use crate::values::{between, integer_at, text_at};
+use crate::values::{between, integer_at, number_or, text_at};
 use hybrid_time::Level;
 use row_types::{BitVector, Memory, VectorError};
 use serde_json::Value;
 use std::alloc::Global;
+
+/// The greatest number of a caller.
+const MAX_CALLER: u32 = 15;
 
 /// The most hits that a search may ask for.
 const MAX_K: u32 = 16_384;
 
 /// The staleness of a search that names none, in milliseconds.
 const USUAL_DELTA_MS: u32 = 5_000;
+
+#[tactic(auto, unfolding(crate::specs::Members::caller_at))]
+pub fn caller_at(value: &Value) -> Option<u32>
+    ensures same { result ≡ caller_at (Some (view value.now)) }
+    ensures most { IfSome result (λ caller. caller ≤ max_caller) }
+{
+    number_or(0, 0, MAX_CALLER, value.get("caller"))
+}
 
 #[tactic(auto, unfolding(crate::specs::Members::key_at))]
 pub fn key_at(value: &Value) -> Option<i64>
@@ -58,10 +69,7 @@ pub fn k_at(value: &Value) -> Option<u32>
 fn delta_of(delta: Option<&Value>) -> Option<u32>
     ensures { result ≡ stated_delta (option_map (λ v. view v.now) delta.entry) }
 {
-    match delta {
-        Some(value) => between(0, u32::MAX, value.as_i64()?),
-        None => Some(USUAL_DELTA_MS),
-    }
+    number_or(USUAL_DELTA_MS, 0, u32::MAX, delta)
 }
 
 fn alone(level: Level, delta: Option<&Value>) -> Option<Level>
@@ -97,4 +105,14 @@ pub fn level_at(value: &Value) -> Option<Level>
         None => "Bounded",
     };
     level_of(value.get("delta_ms"), name)
+}
+
+#[tactic(auto, unfolding(crate::specs::Members::wait_at))]
+pub fn wait_at(value: &Value) -> Option<bool>
+    ensures { result ≡ wait_at (Some (view value.now)) }
+{
+    match value.get("wait") {
+        Some(wait) => wait.as_bool(),
+        None => Some(true),
+    }
 }

@@ -1,18 +1,19 @@
 //! The operations that a line can name, and what they ask.
 
-ghost use Rattle.std.specs.Prelude.{◌≡◌, Some, Ok, IfOk, IfErr, length};
+ghost use Rattle.std.specs.Prelude.{◌≡◌, ◌≤◌, Some, Ok, IfOk, IfErr, length};
 ghost use Rattle.serde_json.specs.View.{view};
 ghost use Rattle.row_types.specs.Bits.{IsDimension};
 ghost use Rattle.coarse_lists.specs.Collections.{IsRowOf};
 ghost use Rattle.coarse_lists.specs.declared.collections.Collection.{Collection as Spec};
 ghost use Rattle.request_lines.specs.Json.{named, has_only};
 ghost use Rattle.request_lines.specs.Requests.{operations, members_of, operation_at, FitsAsk, Refuses};
-ghost use Rattle.request_lines.specs.Parts.{operation_read, vector_read, row_read, search_read, ask_read};
+ghost use Rattle.request_lines.specs.Members.{max_caller};
+ghost use Rattle.request_lines.specs.Parts.{operation_read, caller_read, vector_read, row_read, search_read, get_read, ask_read};
 
 use crate::fields::fields_at;
 use crate::filters::filter_at;
 use crate::headers::creates;
-use crate::members::{k_at, key_at, level_at, spelled, vector_text_at};
+use crate::members::{caller_at, k_at, key_at, level_at, spelled, vector_text_at, wait_at};
 use crate::refusals::LineError;
 use crate::requests::Ask;
 use crate::values::{has_only, text_at};
@@ -30,7 +31,10 @@ pub enum Operation {
     Upsert,
     Delete,
     Search,
+    Get,
     Tick,
+    Seal,
+    Meet,
 }
 
 fn operation_of(name: &str) -> Option<Operation>
@@ -41,7 +45,10 @@ fn operation_of(name: &str) -> Option<Operation>
         "upsert" => Some(Operation::Upsert),
         "delete" => Some(Operation::Delete),
         "search" => Some(Operation::Search),
+        "get" => Some(Operation::Get),
         "tick" => Some(Operation::Tick),
+        "seal" => Some(Operation::Seal),
+        "meet" => Some(Operation::Meet),
         _ => None,
     }
 }
@@ -59,11 +66,18 @@ fn has_members(value: &Value, operation: Operation) -> bool
 {
     match operation {
         Operation::Insert | Operation::Upsert => {
-            has_only(value, &["op", "key", "vector", "fields"])
+            has_only(value, &["op", "caller", "key", "vector", "fields"])
         }
-        Operation::Delete => has_only(value, &["op", "key"]),
-        Operation::Search => has_only(value, &["op", "vector", "k", "level", "delta_ms", "filter"]),
-        Operation::Tick => has_only(value, &["op"]),
+        Operation::Delete => has_only(value, &["op", "caller", "key"]),
+        Operation::Search => has_only(
+            value,
+            &[
+                "op", "caller", "vector", "k", "level", "delta_ms", "filter", "wait",
+            ],
+        ),
+        Operation::Get => has_only(value, &["op", "caller", "key", "level", "delta_ms", "wait"]),
+        Operation::Tick | Operation::Seal => has_only(value, &["op", "caller"]),
+        Operation::Meet => has_only(value, &["op"]),
     }
 }
 
@@ -82,6 +96,17 @@ pub fn operation_in(value: &Value) -> Result<Operation, Reason>
         return Err(Reason::UnknownMember);
     }
     Ok(operation)
+}
+
+/// The caller of a line with an operation; a meet has none.
+pub fn caller_in(value: &Value, operation: Operation) -> Result<u32, Reason>
+    ensures same { (collection : Spec) → result ≡ caller_read collection operation (Some (view value.now)) }
+    ensures most { IfOk result (λ caller. caller ≤ max_caller) }
+{
+    match operation {
+        Operation::Meet => Ok(0),
+        _ => caller_at(value).ok_or(Reason::BadCaller),
+    }
 }
 
 fn vector_in(alloc: Global, collection: &Collection, value: &Value) -> Result<BitVector, LineError>
@@ -121,10 +146,26 @@ fn search_in(alloc: Global, collection: &Collection, value: &Value) -> Result<As
     let k = k_at(value).ok_or(Reason::BadK)?;
     let level = level_at(value).ok_or(Reason::BadLevel)?;
     let filter = filter_at(alloc, value, &collection.schema)?.ok_or(Reason::BadFilter)?;
+    let wait = wait_at(value).ok_or(Reason::BadWait)?;
     Ok(Ask::Search {
         query: Query { vector, k, filter },
         level,
-        wait: true,
+        wait,
+    })
+}
+
+fn get_in(value: &Value) -> Result<Ask, LineError>
+    ensures ok { (collection : Spec) → IfOk result (λ ask. get_read collection (Some (view value.now)) ≡ Ok ask) }
+    ensures err { (collection : Spec) → IfErr result (Refuses (get_read collection (Some (view value.now)))) }
+    ensures fits { (collection : Spec) → IfOk result (FitsAsk collection) }
+{
+    let key = key_at(value).ok_or(Reason::BadKey)?;
+    let level = level_at(value).ok_or(Reason::BadLevel)?;
+    let wait = wait_at(value).ok_or(Reason::BadWait)?;
+    Ok(Ask::Get {
+        key: Key(key),
+        level,
+        wait,
     })
 }
 
@@ -148,6 +189,9 @@ pub fn ask_in(
             Ok(Ask::Write(Write::Delete(Key(key))))
         }
         Operation::Search => search_in(alloc, collection, value),
+        Operation::Get => get_in(value),
         Operation::Tick => Ok(Ask::Tick),
+        Operation::Seal => Ok(Ask::Seal),
+        Operation::Meet => Ok(Ask::Meet),
     }
 }

@@ -7,7 +7,7 @@ use row_types::Key;
 /// What a caller asks.
 #[derive(Debug, Drop)]
 pub struct Request {
-    /// The number of the caller.
+    /// The number of the caller, at most 15; a meet is no caller's, and 0 stands there.
     pub caller: u32,
     pub what: Ask,
 }

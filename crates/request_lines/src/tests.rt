@@ -42,6 +42,17 @@ fn only_a_create_line_makes_a_collection(rt: HostRuntime) -> Result<(), Fail> {
         (r#"{"op":"create"}"#, None),
         (r#"{"op":"tick","dim":8}"#, None),
         (r#"{"op":"create","dim":8,"shards":1}"#, None),
+        (r#"{"op":"create","dim":8,"nodes":1}"#, None),
+        (r#"{"op":"create","dim":8,"channels":0}"#, None),
+        (r#"{"op":"create","dim":8,"channels":16}"#, Some(8)),
+        (r#"{"op":"create","dim":8,"channels":17}"#, None),
+        (r#"{"op":"create","dim":8,"channels":"2"}"#, None),
+        (r#"{"op":"create","dim":8,"channels":null}"#, None),
+        (r#"{"op":"create","dim":8,"seal_rows":1}"#, None),
+        (r#"{"op":"create","dim":8,"seal_rows":2}"#, Some(8)),
+        (r#"{"op":"create","dim":8,"seal_rows":65536}"#, Some(8)),
+        (r#"{"op":"create","dim":8,"seal_rows":65537}"#, None),
+        (r#"{"op":"create","dim":8,"seal_rows":2.0}"#, None),
         (r#"{"op":"create","dim":8,"metric":"JACCARD"}"#, Some(8)),
         (r#"{"op":"create","dim":8,"metric":"jaccard"}"#, None),
         (r#"{"op":"create","dim":8,"metric":null}"#, None),
@@ -268,6 +279,170 @@ fn a_header_has_its_metric_and_columns(rt: HostRuntime) -> Result<(), Fail> {
     let plain = read_header(rt.alloc(), br#"{"op":"create","dim":8}"#)?;
     assert_eq!(rt; plain.metric, Metric::Hamming);
     assert!(rt; plain.schema.columns.as_slice().is_empty());
+    Ok(())
+}
+
+#[test]
+fn a_header_has_its_channels_and_seal_rows(rt: HostRuntime) -> Result<(), Fail> {
+    for (line, channels, seal_rows) in [
+        (r#"{"op":"create","dim":8}"#, 1, 1_024),
+        (r#"{"op":"create","dim":8,"channels":2}"#, 2, 1_024),
+        (r#"{"op":"create","dim":8,"seal_rows":2}"#, 1, 2),
+        (
+            r#"{"op":"create","dim":8,"channels":16,"seal_rows":65536}"#,
+            16,
+            65_536,
+        ),
+        (
+            r#"{"seal_rows":3,"channels":0,"op":"create","dim":8,"channels":4}"#,
+            4,
+            3,
+        ),
+    ] {
+        let collection = read_header(rt.alloc(), line.as_bytes())?;
+        assert_eq!(rt; collection.channels, channels, "at {line}");
+        assert_eq!(rt; collection.seal_rows, seal_rows, "at {line}");
+    }
+    Ok(())
+}
+
+#[test]
+fn the_caller_and_the_wait_of_a_line_are_refused_in_their_places(
+    rt: HostRuntime,
+) -> Result<(), Fail> {
+    let collection = read_header(rt.alloc(), br#"{"op":"create","dim":8}"#)?;
+    for (line, want) in [
+        (r#"{"op":"handoff"}"#, Reason::BadOp),
+        (r#"{"op":"compact"}"#, Reason::BadOp),
+        (r#"{"op":"move","from":0,"to":0}"#, Reason::BadOp),
+        (
+            r#"{"op":"tick","caller":16,"wait":true}"#,
+            Reason::UnknownMember,
+        ),
+        (r#"{"op":"meet","caller":16}"#, Reason::UnknownMember),
+        (r#"{"op":"meet","caller":0}"#, Reason::UnknownMember),
+        (r#"{"op":"seal","key":1}"#, Reason::UnknownMember),
+        (r#"{"op":"get","key":1,"k":1}"#, Reason::UnknownMember),
+        (
+            r#"{"op":"search","caller":16,"nprobe":1}"#,
+            Reason::UnknownMember,
+        ),
+        (r#"{"op":"tick","caller":16}"#, Reason::BadCaller),
+        (r#"{"op":"seal","caller":-1}"#, Reason::BadCaller),
+        (r#"{"op":"delete","caller":"1"}"#, Reason::BadCaller),
+        (r#"{"op":"insert","caller":1.0}"#, Reason::BadCaller),
+        (r#"{"op":"upsert","caller":null}"#, Reason::BadCaller),
+        (r#"{"op":"search","caller":16,"k":0}"#, Reason::BadCaller),
+        (r#"{"op":"get","caller":16,"wait":1}"#, Reason::BadCaller),
+        (r#"{"op":"get","caller":15}"#, Reason::BadKey),
+        (
+            r#"{"op":"get","key":1.5,"level":"strong","wait":1}"#,
+            Reason::BadKey,
+        ),
+        (
+            r#"{"op":"get","key":1,"level":"strong","wait":1}"#,
+            Reason::BadLevel,
+        ),
+        (
+            r#"{"op":"get","key":1,"level":"Session","delta_ms":1}"#,
+            Reason::BadLevel,
+        ),
+        (
+            r#"{"op":"search","vector":"00","k":1,"filter":"key ==","wait":1}"#,
+            Reason::BadFilter,
+        ),
+        (
+            r#"{"op":"search","vector":"00","k":1,"wait":1}"#,
+            Reason::BadWait,
+        ),
+        (r#"{"op":"get","key":1,"wait":"true"}"#, Reason::BadWait),
+        (r#"{"op":"get","key":1,"wait":null}"#, Reason::BadWait),
+    ] {
+        let refusal = read_line(rt.alloc(), line.as_bytes(), &collection).err();
+        assert_eq!(rt; refusal, Some(LineError::Refused(want)), "at {line}");
+    }
+    Ok(())
+}
+
+#[test]
+fn a_line_has_its_caller(rt: HostRuntime) -> Result<(), Fail> {
+    let collection = read_header(rt.alloc(), br#"{"op":"create","dim":8}"#)?;
+    for (line, want) in [
+        (r#"{"op":"tick"}"#, 0),
+        (r#"{"op":"tick","caller":0}"#, 0),
+        (r#"{"op":"seal","caller":15}"#, 15),
+        (r#"{"op":"insert","caller":1,"key":1,"vector":"0f"}"#, 1),
+        (r#"{"op":"upsert","key":1,"vector":"0f","caller":2}"#, 2),
+        (r#"{"op":"delete","key":1,"caller":9,"caller":3}"#, 3),
+        (r#"{"op":"search","vector":"0f","k":1,"caller":4}"#, 4),
+        (r#"{"op":"get","key":1,"caller":5}"#, 5),
+        (r#"{"op":"meet"}"#, 0),
+    ] {
+        let request = read_line(rt.alloc(), line.as_bytes(), &collection)?;
+        assert_eq!(rt; request.caller, want, "at {line}");
+    }
+    Ok(())
+}
+
+#[test]
+fn a_get_has_its_key_its_level_and_its_wait(rt: HostRuntime) -> Result<(), Fail> {
+    let collection = read_header(rt.alloc(), br#"{"op":"create","dim":8}"#)?;
+    for (line, number, freshness, waits) in [
+        (
+            r#"{"op":"get","key":-7}"#,
+            -7,
+            Level::Bounded { delta_ms: 5_000 },
+            true,
+        ),
+        (
+            r#"{"op":"get","key":1,"level":"Strong","wait":true}"#,
+            1,
+            Level::Strong,
+            true,
+        ),
+        (
+            r#"{"op":"get","key":1,"delta_ms":7,"wait":false}"#,
+            1,
+            Level::Bounded { delta_ms: 7 },
+            false,
+        ),
+    ] {
+        let request = read_line(rt.alloc(), line.as_bytes(), &collection)?;
+        match &request.what {
+            Ask::Get { key, level, wait } => {
+                assert_eq!(rt; *key, Key(number), "at {line}");
+                assert_eq!(rt; *level, freshness, "at {line}");
+                assert_eq!(rt; *wait, waits, "at {line}");
+            }
+            _ => assert!(rt; false, "at {line}"),
+        }
+    }
+    Ok(())
+}
+
+#[test]
+fn a_search_may_say_that_it_does_not_wait(rt: HostRuntime) -> Result<(), Fail> {
+    let collection = read_header(rt.alloc(), br#"{"op":"create","dim":8}"#)?;
+    for (line, waits) in [
+        (r#"{"op":"search","vector":"0f","k":1,"wait":false}"#, false),
+        (r#"{"op":"search","vector":"0f","k":1,"wait":true}"#, true),
+    ] {
+        let request = read_line(rt.alloc(), line.as_bytes(), &collection)?;
+        assert!(rt;
+            matches!(&request.what, Ask::Search { wait, .. } if *wait == waits),
+            "at {line}"
+        );
+    }
+    Ok(())
+}
+
+#[test]
+fn seals_and_meets_are_read(rt: HostRuntime) -> Result<(), Fail> {
+    let collection = read_header(rt.alloc(), br#"{"op":"create","dim":8}"#)?;
+    let seal = read_line(rt.alloc(), br#"{"op":"seal"}"#, &collection)?;
+    assert!(rt; matches!(&seal.what, Ask::Seal));
+    let meet = read_line(rt.alloc(), br#"{"op":"meet"}"#, &collection)?;
+    assert!(rt; matches!(&meet.what, Ask::Meet));
     Ok(())
 }
 

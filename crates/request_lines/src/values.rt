@@ -6,7 +6,8 @@ ghost use Rattle.std.specs.Str.{bytes_eq};
 ghost use Rattle.std.specs.String.{string_bytes};
 ghost use Rattle.std.specs.BTreeMap.{keys};
 ghost use Rattle.serde_json.specs.View.{view};
-ghost use Rattle.request_lines.specs.Json.{line_of, text_at, integer_at, between, has_only};
+ghost use Rattle.coarse_lists.specs.Collections.{IsWithin};
+ghost use Rattle.request_lines.specs.Json.{line_of, text_at, integer_at, between, number_in, has_only, stated};
 
 use row_types::Memory;
 use serde_json::{Category, Map, Value};
@@ -50,6 +51,20 @@ pub fn between(low: u32, high: u32, number: i64) -> Option<u32>
         return None;
     }
     Some(number as u32)
+}
+
+/// The integer that a member is, where it is from `low` to `high`; a member that is not there is
+/// `usual`.
+pub fn number_or(usual: u32, low: u32, high: u32, member: Option<&Value>) -> Option<u32>
+    requires least { low ≤ usual }
+    requires most { usual ≤ high }
+    ensures same { result ≡ stated usual (number_in low high) (option_map (λ v. view v.now) member.entry) }
+    ensures within { IfSome result (IsWithin low high) }
+{
+    match member {
+        Some(value) => between(low, high, value.as_i64()?),
+        None => Some(usual),
+    }
 }
 
 fn is_among(names: &[&str], key: &str) -> bool

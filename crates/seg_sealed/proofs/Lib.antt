@@ -5,3 +5,4 @@ pub mod WordLaws
 pub mod MarkLaws
 pub mod SealLaws
 pub mod ChainLaws
+pub mod RunLaws

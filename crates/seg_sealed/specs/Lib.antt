@@ -1,4 +1,5 @@
 pub mod Segments
 pub mod Marks
 pub mod Parts
+pub mod Runs
 pub mod Fields

@@ -13,10 +13,12 @@ mod latest;
 mod marks;
 mod parts;
 mod rows;
+mod runs;
 mod sealed;
 #[cfg(test)]
 mod tests;
 
 pub use crate::marks::{Deaths, Marks};
 pub use crate::parts::Part;
+pub use crate::runs::Run;
 pub use crate::sealed::Sealed;

@@ -2,16 +2,19 @@
 
 ghost use Rattle.std.specs.Prelude.{◌≡◌, ◌<◌, ◌≤◌, ℕ, length, map, slice_get, Some, IfOk};
 ghost use Rattle.std.specs.Option.{option_map, option_copied, IfSome};
+ghost use Rattle.std.specs.List.{AllByRecursion};
 ghost use Rattle.row_types.specs.Bits.{AreWordsOf};
 ghost use Rattle.row_types.specs.Filters.{passes};
 ghost use Rattle.binlog_format.specs.Inserts.{IsInsertLog};
 ghost use Rattle.log_model.specs.Places.{IsColumn, width_of, vector_of};
 ghost use Rattle.seg_sealed.specs.Segments.{IsSealed, SealedSegment, AreListsOf, with_lists, sealed_rows, position_of, stamp_of, key_of, log_of};
 ghost use Rattle.seg_sealed.specs.Fields.{sealed_of};
+ghost use Rattle.seg_sealed.specs.Runs.{IsRunLike, rows_of_runs, with_rows};
 
 use crate::columns::{columns_of, heads_of, positions_of, stamps_of};
 use crate::copies::{copy_columns, pack, unpack};
 use crate::rows::{RowAt, fields_in, row_holds, vector_in, window};
+use crate::runs::{Run, columns_in, keys_in, positions_in, rows_in, stamps_in, words_in};
 use binlog_format::{Column, InsertLog, ListFile};
 use hybrid_time::Timestamp;
 use log_model::TailRows;
@@ -64,6 +67,37 @@ impl Sealed {
             stamps,
             keys: heads.keys,
             words: heads.words,
+            columns,
+            lists: None,
+        })
+    }
+
+    /// The segment of this number of the rows of some runs in their order, with the dimension and the
+    /// kinds of columns of a segment, and without lists. Each vector is copied once.
+    pub fn of_runs(
+        alloc: Global,
+        number: u64,
+        like: &Sealed,
+        runs: &[Run<'_>],
+    ) -> Result<Sealed, Memory>
+        requires sealed { IsSealed (with_rows number like.now (rows_of_runs runs.now)) }
+        requires alike { AllByRecursion (IsRunLike like.now) runs.now }
+        ensures { IfOk result (λ s. s ≡ with_rows number like.now (rows_of_runs runs.now)) }
+    {
+        let count = rows_in(runs);
+        let dim = like.dim();
+        let positions = positions_in(alloc, runs, count)?;
+        let stamps = stamps_in(alloc, runs, count)?;
+        let keys = keys_in(alloc, runs, count)?;
+        let words = words_in(alloc, runs, dim, count)?;
+        let columns = columns_in(alloc, runs, like.columns(), count)?;
+        Ok(Sealed {
+            number,
+            dim,
+            positions,
+            stamps,
+            keys,
+            words,
             columns,
             lists: None,
         })

@@ -5,7 +5,7 @@ ghost use Rattle.std.specs.List.{AllByRecursion};
 ghost use Rattle.log_model.specs.Places.{placed};
 ghost use Rattle.seg_sealed.specs.Segments.{IsSealed, IsShortField, kind_of, sealed_rows};
 
-use crate::{Marks, Part, Sealed};
+use crate::{Marks, Part, Run, Sealed};
 use binlog_format::{read_insert, write_insert};
 use hybrid_time::Timestamp;
 use log_model::{SharedRow, TailRow, TailRows};
@@ -121,6 +121,27 @@ fn rows_are_read_back(rt: HostRuntime) -> Result<(), Memory> {
     let sealed = sealed(&rt, alloc)?;
     check_columns(&rt, &sealed);
     check_row(&rt, alloc, &sealed)
+}
+
+/// The rows of a segment of two rows, lent as two runs.
+fn in_runs(alloc: Global, sealed: &Sealed) -> Result<Sealed, Memory>
+    requires { length sealed.now.rows ≡ 2 }
+{
+    let number = sealed.number();
+    let runs = vec![in alloc; Run::new(sealed, 0, 1), Run::new(sealed, 1, 2)]?;
+    Sealed::of_runs(alloc, number, sealed, runs.as_slice())
+}
+
+#[test]
+fn runs_of_rows_make_a_segment(rt: HostRuntime) -> Result<(), Memory> {
+    let alloc = rt.alloc();
+    let sealed = sealed(&rt, alloc)?;
+    if sealed.len() == 2 {
+        let again = in_runs(alloc, &sealed)?;
+        check_columns(&rt, &again);
+        check_row(&rt, alloc, &again)?;
+    }
+    Ok(())
 }
 
 fn compares(left: Operand, op: CompareOp, right: Field) -> Filter {

@@ -1,6 +1,5 @@
-use Rattle.std.proofs.Common.{◌≡◌, ◌≤◌, ◌<◌, ◌+◌, ◌++◌, [], List, ℕ, length, take, length-take, length-append, append-nil, refl, sym, subst, arith}
+use Rattle.std.proofs.Common.{◌≡◌, ◌++◌, [], length, take, length-take, length-append, refl, arith}
 use Rattle.std.proofs.lemmas.List.{length-take-le}
-use Rattle.std.specs.Io.KnownBytes.{Consumes}
 use Rattle.phase_reading.proofs.Pieces.{none_consumed, consumed_kept, consumed_more, consumed_last}
 use Rattle.phase_reading.proofs.Steps.{at_start}
 use Rattle.phase_reading.proofs.Cutting.{within_now, begun_now, stopped_now}
@@ -39,7 +38,7 @@ pub returns-in-Ok-finish-clause-done : goal.returns-in-Ok-finish-clause-done
 returns-in-Ok-finish-clause-done g c =
     let i = c.pieces.invariant.known in
     let d = c.in-Ok-finish.ensures.done (g.O.Sink.written c.args.sink.now) i.0 i.3 in
-    done_outcome g.E.Engine.stopped g.E.Engine.whole g.E.Engine.begins g.E.Engine.meets _ (g.S.Source.left c.read_piece.new.source) _ _ i.0 (consumed_last _ _ _ i.0 _ c.in-Ok.count c.if-count-eq0.true i.1 c.in-Ok.ensures.bytes) (c.in-Ok.ensures.end c.if-count-eq0.true) d.0 d.1
+    done_outcome (g.E.Engine.stopped c.finish.new.engine) (g.E.Engine.whole c.finish.new.engine) g.E.Engine.begins g.E.Engine.meets _ (g.S.Source.left c.read_piece.new.source) _ _ i.0 (consumed_last _ _ _ i.0 _ c.in-Ok.count c.if-count-eq0.true i.1 c.in-Ok.ensures.bytes) (c.in-Ok.ensures.end c.if-count-eq0.true) d.0 d.1
 
 pub returns-in-Ok-finish-clause-within : goal.returns-in-Ok-finish-clause-within
 returns-in-Ok-finish-clause-within g c =
@@ -54,13 +53,13 @@ returns-in-Ok-finish-clause-in_piece g c =
 pub returns-in-Err-finish-clause-stopped : goal.returns-in-Err-finish-clause-stopped
 returns-in-Err-finish-clause-stopped g c =
     let i = c.pieces.invariant.known in
-    end_outcome g.E.Engine.stopped g.E.Engine.whole g.E.Engine.begins g.E.Engine.meets c.in-Err-finish.stop _ (g.S.Source.left c.read_piece.new.source) _ _ i.0 (consumed_last _ _ _ i.0 _ c.in-Ok.count c.if-count-eq0.true i.1 c.in-Ok.ensures.bytes) (c.in-Ok.ensures.end c.if-count-eq0.true)
+    end_outcome (g.E.Engine.stopped c.finish.new.engine) (g.E.Engine.whole c.finish.new.engine) g.E.Engine.begins g.E.Engine.meets c.in-Err-finish.stop _ (g.S.Source.left c.read_piece.new.source) _ _ i.0 (consumed_last _ _ _ i.0 _ c.in-Ok.count c.if-count-eq0.true i.1 c.in-Ok.ensures.bytes) (c.in-Ok.ensures.end c.if-count-eq0.true)
     (within_now _ _ _ _ _ _ _ _ i.3 (omega (arith, i.2, c.pieces.invariant.few))) (c.in-Err-finish.ensures.ended (g.O.Sink.written c.args.sink.now) i.0 i.3)
 
 pub returns-in-Err-finish-clause-read_fault : goal.returns-in-Err-finish-clause-read_fault
 returns-in-Err-finish-clause-read_fault g c e =
     let i = c.pieces.invariant.known in
-    absurd (no_end_fault g.E.Engine.stopped g.E.Engine.whole g.E.Engine.begins g.E.Engine.meets c.in-Err-finish.stop i.0 _ _ (c.in-Err-finish.ensures.ended (g.O.Sink.written c.args.sink.now) i.0 i.3) e)
+    absurd (no_end_fault (g.E.Engine.stopped c.finish.new.engine) (g.E.Engine.whole c.finish.new.engine) g.E.Engine.begins g.E.Engine.meets c.in-Err-finish.stop i.0 _ _ (c.in-Err-finish.ensures.ended (g.O.Sink.written c.args.sink.now) i.0 i.3) e)
 
 pub returns-in-Err-finish-clause-in_piece : goal.returns-in-Err-finish-clause-in_piece
 returns-in-Err-finish-clause-in_piece g c =
@@ -70,13 +69,13 @@ returns-in-Err-finish-clause-in_piece g c =
 pub returns-in-Err-take_within-clause-stopped : goal.returns-in-Err-take_within-clause-stopped
 returns-in-Err-take_within-clause-stopped g c =
     let i = c.pieces.invariant.known in
-    stop_outcome g.E.Engine.stopped g.E.Engine.whole g.E.Engine.begins g.E.Engine.meets c.in-Err-take_within.stop _ (g.S.Source.left c.read_piece.new.source) _ _ (i.0 ++ take c.in-Ok.count c.read_piece.new.buffer) (consumed_more _ _ _ _ _ i.1 c.in-Ok.ensures.bytes)
+    stop_outcome (g.E.Engine.stopped c.take_within.new.engine) (g.E.Engine.whole c.take_within.new.engine) g.E.Engine.begins g.E.Engine.meets c.in-Err-take_within.stop _ (g.S.Source.left c.read_piece.new.source) _ _ (i.0 ++ take c.in-Ok.count c.read_piece.new.buffer) (consumed_more _ _ _ _ _ i.1 c.in-Ok.ensures.bytes)
     (c.in-Err-take_within.ensures.ended (g.O.Sink.written c.args.sink.now) i.0 i.2 i.3)
 
 pub returns-in-Err-take_within-clause-read_fault : goal.returns-in-Err-take_within-clause-read_fault
 returns-in-Err-take_within-clause-read_fault g c e =
     let i = c.pieces.invariant.known in
-    absurd (no_fault g.E.Engine.stopped g.E.Engine.whole g.E.Engine.begins g.E.Engine.meets c.in-Err-take_within.stop (i.0 ++ take c.in-Ok.count c.read_piece.new.buffer) _ _ (c.in-Err-take_within.ensures.ended (g.O.Sink.written c.args.sink.now) i.0 i.2 i.3) e)
+    absurd (no_fault (g.E.Engine.stopped c.take_within.new.engine) (g.E.Engine.whole c.take_within.new.engine) g.E.Engine.begins g.E.Engine.meets c.in-Err-take_within.stop (i.0 ++ take c.in-Ok.count c.read_piece.new.buffer) _ _ (c.in-Err-take_within.ensures.ended (g.O.Sink.written c.args.sink.now) i.0 i.2 i.3) e)
 
 pub returns-in-Err-take_within-clause-in_piece : goal.returns-in-Err-take_within-clause-in_piece
 returns-in-Err-take_within-clause-in_piece g c =
@@ -109,3 +108,12 @@ pieces-preserved g c =
       later = omega (arith, c.pieces.invariant.later, c.in-Ok.ensures.later);
       later_sink = omega (arith, c.pieces.invariant.later_sink, c.take_within.ensures.later);
     }
+
+pub returns-in-Ok-finish-clause-follows : goal.returns-in-Ok-finish-clause-follows
+returns-in-Ok-finish-clause-follows g c = g.E.Engine.goes_on _ _ _ c.pieces.invariant.follows c.finish.ensures.follows
+
+pub returns-in-Err-finish-clause-follows : goal.returns-in-Err-finish-clause-follows
+returns-in-Err-finish-clause-follows g c = g.E.Engine.goes_on _ _ _ c.pieces.invariant.follows c.finish.ensures.follows
+
+pub returns-in-Err-take_within-clause-follows : goal.returns-in-Err-take_within-clause-follows
+returns-in-Err-take_within-clause-follows g c = g.E.Engine.goes_on _ _ _ c.pieces.invariant.follows c.take_within.ensures.follows

@@ -1,4 +1,4 @@
-use Rattle.std.proofs.Common.{◌≡◌, ◌⊎◌, inl, inr, ◌<◌, ◌+◌, [], length, rules, arith}
+use Rattle.std.proofs.Common.{◌≡◌, ◌⊎◌, inl, inr, ◌<◌, length, arith}
 use Rattle.phase_reading.proofs.Pieces.{on_ok, if_err}
 use Rattle.phase_reading.proofs.Taking.{no_more, close_none, close_next, close_ended}
 use Rattle.phase_reading.proofs.reading.Reading.close_last.Goals as goal
@@ -23,4 +23,4 @@ returns-clause-ended g c =
       | else-self-gt0-via-then-self-gt0+else-is_empty w ↦ inl (grind (arith, w.if-is_empty.ensures, w.if-is_empty.false))
       | else-self-gt0-via-else-self-gt0 w ↦ inr (omega (arith, w.if-self-gt0.false))
     ] in
-    if_err _ _ c.answer_line.result (λ stop ended before all s. close_ended _ _ (g.E.Engine.stands c.args.engine.now) _ _ _ _ _ _ _ s stop _ c.deref.result.now c.deref.ensures.value some (ended before all)) c.answer_line.ensures.ended
+    if_err _ _ c.answer_line.result (λ stop ended before all s. close_ended _ _ (λ done waiting output told. g.E.Engine.persists c.args.engine.now c.answer_line.new.engine done output c.answer_line.ensures.follows (g.E.Engine.stands c.args.engine.now done waiting output told)) _ _ _ _ _ _ _ s stop _ c.deref.result.now c.deref.ensures.value some (ended before all)) c.answer_line.ensures.ended

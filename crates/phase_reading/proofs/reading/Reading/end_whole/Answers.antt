@@ -1,4 +1,4 @@
-use Rattle.std.proofs.Common.{◌≡◌, inr, ◌+◌, ◌++◌, ◌∷◌, [], length, refl, length-append, arith}
+use Rattle.std.proofs.Common.{inr, ◌++◌, ◌∷◌, [], refl, length-append, arith}
 use Rattle.phase_reading.proofs.Closing.{stops_here}
 use Rattle.phase_reading.proofs.Taking.{extended, not_extended}
 use Rattle.phase_reading.proofs.reading.Reading.end_whole.Goals as goal
@@ -17,4 +17,4 @@ pub returns-in-Err-answer_line-clause-ended : goal.returns-in-Err-answer_line-cl
 returns-in-Err-answer_line-clause-ended g c before all size s =
     let ok = c.in-Ok.ensures.ok in
     let n = extended _ _ (g.E.Engine.stands c.args.engine.now) _ _ _ _ _ _ _ s c.args.line.now c.args.line.now c.args.self.lines c.requires.open refl (refl, ok.0) ok.1 in
-    stops_here _ _ (g.E.Engine.stands c.args.engine.now) _ _ _ _ _ _ _ n c.in-Err-answer_line.stop _ ok.0 (omega (arith, size, length-append all c.args.line.now)) (c.in-Err-answer_line.ensures.ended before (all ++ c.args.line.now) n)
+    stops_here _ _ (λ done waiting output told. g.E.Engine.persists c.args.engine.now c.answer_line.new.engine done output c.answer_line.ensures.follows (g.E.Engine.stands c.args.engine.now done waiting output told)) _ _ _ _ _ _ _ n c.in-Err-answer_line.stop _ ok.0 (omega (arith, size, length-append all c.args.line.now)) (c.in-Err-answer_line.ensures.ended before (all ++ c.args.line.now) n)

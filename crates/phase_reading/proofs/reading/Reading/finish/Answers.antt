@@ -1,4 +1,4 @@
-use Rattle.std.proofs.Common.{◌≡◌, List, ℕ, sym, subst}
+use Rattle.std.proofs.Common.{List, ℕ, sym, subst}
 use Rattle.phase_reading.specs.Phases.{IsBegun}
 use Rattle.phase_reading.proofs.Pieces.{on_ok, if_err}
 use Rattle.phase_reading.proofs.Cutting.{begun_now}
@@ -22,4 +22,4 @@ pub returns-clause-ended : goal.returns-clause-ended
 returns-clause-ended g c =
     if_err _ _ c.end_input.result (λ stop f before all s.
     let n = c.in-Ok.ensures.next before all s in
-    not_finished _ _ (g.E.Engine.stands c.close_last.new.engine) _ _ _ _ _ _ _ n.4 g.E.Engine.whole _ all n.2 stop f) c.end_input.ensures.err
+    not_finished _ _ (λ done waiting output told. g.E.Engine.persists c.close_last.new.engine c.end_input.new.engine done output c.end_input.ensures.follows (g.E.Engine.stands c.close_last.new.engine done waiting output told)) _ _ _ _ _ _ _ n.4 (g.E.Engine.whole c.end_input.new.engine) _ all n.2 stop f) c.end_input.ensures.err

@@ -1,4 +1,4 @@
-use Rattle.std.proofs.Common.{◌≡◌, ◌++◌, ◌∷◌, [], List, ℕ, ◌+◌, ◌<◌, length, sym, ap, ◌∙◌, subst, arith, refl, append-nil, append_assoc, length-append}
+use Rattle.std.proofs.Common.{◌≡◌, ◌++◌, ◌∷◌, [], List, ℕ, ◌<◌, length, sym, ap, ◌∙◌, subst, arith, refl, append-nil, append_assoc, length-append}
 use Rattle.phase_reading.specs.Steps.{IsSoFar, Stops}
 use Rattle.phase_reading.proofs.Cutting.{stops-longer}
 use Rattle.phase_reading.proofs.Taking.{extended, not_extended, step_piece, step_all, step_whole, step_size, last_size_of}
@@ -22,8 +22,8 @@ returns-in-Err-clause-ended g c before all size s =
     let i = c.lines.invariant.known in
     let f = c.in-Some.ensures.1 in
     let stops = c.in-Err.ensures.ended before (all ++ i.0) (step_size all c.args.piece.now i.0 c.lines.rest.now c.in-Some.text.now c.in-Some.after.now i.1 f size) (i.2 before all s) in
-    subst (λ (l : List ℕ). Stops g.E.Engine.stopped g.E.Engine.begins g.E.Engine.meets c.in-Err.stop l before (g.O.Sink.written c.end_line.new.sink)) (step_whole all c.args.piece.now i.0 c.lines.rest.now c.in-Some.text.now c.in-Some.after.now i.1 f)
-    (stops-longer g.E.Engine.stopped g.E.Engine.begins g.E.Engine.meets c.in-Err.stop (((all ++ i.0) ++ c.in-Some.text.now) ++ 10 ∷ []) c.in-Some.after.now before (g.O.Sink.written c.end_line.new.sink) stops)
+    subst (λ (l : List ℕ). Stops (g.E.Engine.stopped c.end_line.new.engine) g.E.Engine.begins g.E.Engine.meets c.in-Err.stop l before (g.O.Sink.written c.end_line.new.sink)) (step_whole all c.args.piece.now i.0 c.lines.rest.now c.in-Some.text.now c.in-Some.after.now i.1 f)
+    (stops-longer (g.E.Engine.stopped c.end_line.new.engine) g.E.Engine.begins g.E.Engine.meets c.in-Err.stop (((all ++ i.0) ++ c.in-Some.text.now) ++ 10 ∷ []) c.in-Some.after.now before (g.O.Sink.written c.end_line.new.sink) stops)
 
 pub lines-preserved : goal.lines-preserved
 lines-preserved g c =
@@ -57,5 +57,5 @@ returns-in-Err-extend-clause-ended g c before all size s =
     let i = c.lines.invariant.known in
     let same : ((all ++ i.0) ++ c.lines.rest.now) ++ [] ≡ all ++ c.args.piece.now = append-nil _ ∙ append_assoc all i.0 c.lines.rest.now ∙ ap (λ l. all ++ l) (sym i.1) in
     let some : 0 < length c.lines.rest.now = grind (arith, c.if-is_empty.ensures, c.if-is_empty.false) in
-    subst (λ (l : List ℕ). Stops g.E.Engine.stopped g.E.Engine.begins g.E.Engine.meets c.in-Err-extend.stop l before (g.O.Sink.written c.lines.sink)) same
+    subst (λ (l : List ℕ). Stops (g.E.Engine.stopped c.lines.engine) g.E.Engine.begins g.E.Engine.meets c.in-Err-extend.stop l before (g.O.Sink.written c.lines.sink)) same
     (not_extended _ _ (g.E.Engine.stands c.lines.engine) _ _ _ _ _ _ _ (i.2 before all s) c.in-Err-extend.stop c.lines.rest.now [] c.in_default.ensures (omega (arith, some, length-append c.lines.rest.now [])) (last_size_of all c.args.piece.now i.0 c.lines.rest.now i.1 size) c.in-Err-extend.ensures.err)

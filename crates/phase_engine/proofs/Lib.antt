@@ -1,0 +1,5 @@
+pub mod Lists
+pub mod Coming
+pub mod Taking
+pub mod Settling
+pub mod Keeping

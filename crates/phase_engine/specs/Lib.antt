@@ -1,0 +1,4 @@
+pub mod Outputs
+pub mod Accounts
+pub mod Steps
+pub mod Standing
