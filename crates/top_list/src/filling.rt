@@ -2,13 +2,15 @@
 
 ghost use Rattle.std.specs.Prelude.{◌≡◌, ℕ, ℤ, ◌+◌, ◌<◌, ◌≤◌, ◌^◌, ◌∷◌, ◌++◌, [], length, vec_len, vec_capacity, IfSome, MatchOption};
 ghost use Rattle.std.specs.declared.cmp.Ordering.TheVariants.{Less};
+ghost use Rattle.std.specs.Ordering.{nat_cmp, int_cmp, ordering_then};
 ghost use Rattle.row_types.specs.declared.hits.Distance.TheVariants.{Hamming};
 ghost use Rattle.std.specs.List.Sorted.{IsPermutation, IsSorted};
 ghost use Rattle.row_types.specs.Hits.{hit_cmp, least, value_cmp};
 ghost use Rattle.top_list.specs.Kept.{IsBehindAll, IsLast, is_after};
+ghost use Rattle.top_list.specs.Ranks.{rank_of};
 
 use crate::tops::TopList;
-use row_types::{Distance, Hit};
+use row_types::{Distance, Hit, Key};
 use std::cmp::Ordering;
 use std::marker::Model;
 
@@ -160,11 +162,28 @@ fn in_turn(a: &Hit, b: &Hit) -> Ordering
 {
     match a.distance {
         Distance::Hamming(here) => match b.distance {
-            Distance::Hamming(there) => here.cmp(&there).then(a.key.cmp(&b.key)),
+            Distance::Hamming(there) => by_bits(here, a.key, there, b.key),
             Distance::Jaccard { .. } => a.cmp(b),
         },
         Distance::Jaccard { .. } => a.cmp(b),
     }
+}
+
+// By numbers of bits, and then by keys. Both are compared as one number: no branch hangs on an
+// answer that a sort can't foresee.
+#[inline(always)]
+fn by_bits(here: u32, a: Key, there: u32, b: Key) -> Ordering
+    ensures { result ≡ ordering_then (nat_cmp here there) (int_cmp a.0 b.0) }
+{
+    rank(here, a).cmp(&rank(there, b))
+}
+
+// A number that rises with the bits, and with the key where the bits are equal.
+#[inline(always)]
+fn rank(bits: u32, key: Key) -> i128
+    ensures { result ≡ rank_of bits key.0 }
+{
+    i128::from(bits) * (1 << 64) + i128::from(key.0)
 }
 
 // The last of k hits that rise, and none where there are fewer.

@@ -97,7 +97,7 @@ fn expect_nearest(rt: &impl Abort, alloc: Global, k: u32, step: u32) -> Result<(
 
 #[test]
 fn any_order_of_offers_keeps_the_same(rt: HostRuntime) -> Result<(), Memory> {
-    for k in [1, 2, 3, 60, 199] {
+    for k in [1, 2, 3, 19, 20, 60, 199] {
         for step in [1, 199, 77, 123] {
             expect_nearest(&rt, rt.alloc(), k, step)?;
         }

@@ -34,14 +34,14 @@ impl Model for TopList {
 impl TopList {
     /// A list with no hits, which is to keep the `k` least.
     ///
-    /// It takes all the memory that it ever takes: 24 bytes for each of k + max(k, 16) hits.
+    /// It takes all the memory that it ever takes: 24 bytes for each of 2 k hits, or of k + 1 where k
+    /// is below 20.
     pub fn new(alloc: Global, k: u32) -> Result<TopList, Memory>
         requires some { 1 ≤ k }
         requires bound { k ≤ 16384 }
         ensures { IfOk result (λ list. list ≡ record { k = k; hits = [] }) }
     {
-        let room = k as usize + (k as usize).max(16);
-        let hits = Window::new(Vec::with_capacity(alloc, room)?);
+        let hits = Window::new(Vec::with_capacity(alloc, room_for(k))?);
         Ok(TopList { k, hits })
     }
 
@@ -95,6 +95,16 @@ impl TopList {
         }
         Ok(gather.settle())
     }
+}
+
+// How many hits a buffer has room for. One of a few hits is full at the first hit that is too many: it
+// is put in order again by one insertion, and what is too far is known at once. A greater one is put in
+// order once as many hits came as it keeps, since there a sort costs more than the offers it saves.
+fn room_for(k: u32) -> usize
+    ensures { k < result }
+{
+    let count = k as usize;
+    if count < 20 { count + 1 } else { 2 * count }
 }
 
 // Puts a hit in its place among at most k hits that rise, and keeps k.
