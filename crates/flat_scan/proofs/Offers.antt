@@ -1,9 +1,11 @@
 -- Rows that are offered one after another.
-use Rattle.std.proofs.Common.{◌≡◌, ℕ, zero, suc, ◌+◌, ◌<◌, ◌≤◌, nat_lt, get_or, Bool, true, false, List, [], ◌∷◌, ◌++◌, length, take, slice_get, Option, Some, None, IfSome, refl, sym, ap, subst, ◌∙◌, add-one, arith}
+use Rattle.std.proofs.Common.{◌≡◌, ℕ, zero, suc, ◌+◌, ◌-◌, ◌*◌, ◌<◌, ◌≤◌, nat_lt, get_or, Bool, true, false, List, [], ◌∷◌, ◌++◌, length, take, slice_get, Option, Some, None, IfSome, refl, sym, ap, subst, ◌∙◌, add-one, arith}
+use Rattle.std.specs.List.{AllByRecursion}
 use Rattle.std.specs.Ordering.{is_lt, ordering_then}
 use Rattle.std.specs.declared.cmp.Ordering.{Ordering}
 use Rattle.std.specs.declared.cmp.Ordering.TheVariants.{Less, Equal, Greater}
 use Rattle.std.proofs.lemmas.Bool.{false≢true, ltb-true, ltb-false}
+use Rattle.std.proofs.lemmas.List.{take_all}
 use Rattle.std.proofs.lemmas.Option.{slice_get-get_or}
 use Rattle.row_types.specs.declared.hits.Hit.{Hit}
 use Rattle.row_types.specs.declared.hits.Distance.{Distance}
@@ -19,9 +21,9 @@ use Rattle.view_laws.specs.Found.{hits_seen}
 use Rattle.view_laws.proofs.Seen as seen
 use Rattle.top_list.specs.Kept.{Kept, Offered, IsBehindAll, is_after}
 use Rattle.top_list.proofs.Fills.{Offered-none, Offered-more}
-use Rattle.flat_scan.specs.Bars.{is_past, AreAllPast, IsFirstNear}
-use Rattle.flat_scan.specs.Rows.{AreDistances, no_row}
-use Rattle.flat_scan.proofs.MarkedRows.{take_next, shown-append}
+use Rattle.flat_scan.specs.Bars.{is_past, AreAllPast, AreDistancesFrom}
+use Rattle.flat_scan.specs.Rows.{AreDistances, AreFar, AreOffered, no_row}
+use Rattle.flat_scan.proofs.MarkedRows.{some_same, none_some, take_next, shown-append}
 
 pub own_offered : (old now : Kept) (xs : List Hit) → Offered old now xs → now.hits ≡ least now.k now.hits
 own_offered old now xs f =
@@ -110,19 +112,56 @@ module _ (ts : ℕ) (plan : Plan) (query : Query) where
       let here = offered_past s now bar (far i) true own behind (apart.each i s there) (sym (past i (omega arith) (omega arith))) refl in
       subst (λ t. Offered old now (hits_seen ts plan query (take t rows))) one (offered_next old now now rows i s there before here)
 
+  -- one row more was offered behind others
+  pub more_offered : (old now next : Kept) (rows : List Shown) (from i : ℕ) (s : Shown) → slice_get rows i ≡ Some s → AreOffered ts plan query rows from i old now
+      → Offered now next (hits_seen ts plan query (s ∷ [])) → AreOffered ts plan query rows from (i + 1) old next
+  more_offered old now next rows from i s e all here first f = offered_next first now next rows i s e (all first f) here
+
+  -- rows behind others that were offered are all too far
+  pub passed_offered : (old now : Kept) (rows : List Shown) (count : ℕ) (far : ℕ → Distance) (bar : Option Hit) (from mid to : ℕ) → mid ≤ to → to ≤ length rows → now.hits ≡ least now.k now.hits → IfSome bar (IsBehindAll now)
+      → AreDistances plan query rows count far → AreAllPast far bar mid to → AreOffered ts plan query rows from mid old now → AreOffered ts plan query rows from to old now
+  passed_offered old now rows count far bar from mid to order within own behind apart past all first f =
+      offered_past_all first now rows count far bar mid (to - mid) to (omega (arith, order)) within own behind apart past (all first f)
+
+  -- all rows were offered, in two runs
+  pub whole_offered : (old mid now : Kept) (rows : List Shown) (n : ℕ) → old.hits ≡ least old.k old.hits → AreOffered ts plan query rows 0 n old mid → AreOffered ts plan query rows n (length rows) mid now
+      → Offered old now (hits_seen ts plan query rows)
+  whole_offered old mid now rows n own front back =
+      subst (λ l. Offered old now (hits_seen ts plan query l)) (take_all (length rows) rows (omega arith)) (back old (front old (Offered-none old own)))
+
+  -- distances of rows by their numbers are those from the query's vector
+  pub are_far : (rows : List Shown) (count : ℕ) (far : ℕ → Distance) (from : ℕ) (distances : List Distance) → AreDistances plan query rows count far → AreDistancesFrom far from distances → AreFar plan query rows from distances
+  are_far rows count far from distances apart same j d e s there = same j d e ∙ apart.each (from + j) s there
+
 pub past_none : (far : ℕ → Distance) (hit : Option Hit) (from : ℕ) → AreAllPast far hit from from
 past_none far hit from j le lt = absurd (omega arith)
 
--- one row more is too far
-pub past_next : (far : ℕ → Distance) (hit : Option Hit) (from i : ℕ) (d : Distance) (past : Bool) → AreAllPast far hit from i → d ≡ far i → past ≡ is_past hit d → past ≡ true → AreAllPast far hit from (i + 1)
-past_next far hit from i d past all is that e j le lt = go (nat_lt j i) refl
+-- four rows are too far where each of them is
+pub past_four : (far : ℕ → Distance) (hit : Option Hit) (from : ℕ) (first second third fourth : Distance) → first ≡ far from → second ≡ far (from + 1) → third ≡ far (from + 2) → fourth ≡ far (from + 3)
+    → AllByRecursion (λ d. is_past hit d ≡ true) (first ∷ second ∷ third ∷ fourth ∷ []) → AreAllPast far hit from (from + 4)
+past_four far hit from first second third fourth one two three four all j le lt = go (j - from) (omega (arith, le, lt)) (omega (arith, le, lt))
   where
-    go : (b : Bool) → nat_lt j i ≡ b → is_past hit (far j) ≡ true
-    go true f = all j le (ltb-true j i f)
-    go false f =
-        let least : i ≤ j = ltb-false j i f in
-        let same : i ≡ j = omega arith in
-        subst (λ n. is_past hit (far n) ≡ true) same (ap (is_past hit) (sym is) ∙ sym that ∙ e)
+    at : (n : ℕ) (d : Distance) → from + n ≡ j → d ≡ far (from + n) → is_past hit d ≡ true → is_past hit (far j) ≡ true
+    at n d e is past = subst (λ i. is_past hit (far i) ≡ true) e (ap (is_past hit) (sym is) ∙ past)
+
+    go : (n : ℕ) → from + n ≡ j → n < 4 → is_past hit (far j) ≡ true
+    go zero e few = let none : from ≡ from + 0 = omega arith in at 0 first e (one ∙ ap far none) all.0
+    go (suc zero) e few = at 1 second e two all.1.0
+    go (suc (suc zero)) e few = at 2 third e three all.1.1.0
+    go (suc (suc (suc zero))) e few = at 3 fourth e four all.1.1.1.0
+    go (suc (suc (suc (suc n)))) e few = absurd (omega (arith, few))
+
+-- the distances of four rows
+pub far_four : (far : ℕ → Distance) (from : ℕ) (first second third fourth : Distance) → first ≡ far from → second ≡ far (from + 1) → third ≡ far (from + 2) → fourth ≡ far (from + 3)
+    → AreDistancesFrom far from (first ∷ second ∷ third ∷ fourth ∷ [])
+far_four far from first second third fourth one two three four = go
+  where
+    go : AreDistancesFrom far from (first ∷ second ∷ third ∷ fourth ∷ [])
+    go zero d e = let none : from ≡ from + 0 = omega arith in sym (some_same first d e) ∙ one ∙ ap far none
+    go (suc zero) d e = sym (some_same second d e) ∙ two
+    go (suc (suc zero)) d e = sym (some_same third d e) ∙ three
+    go (suc (suc (suc zero))) d e = sym (some_same fourth d e) ∙ four
+    go (suc (suc (suc (suc n)))) d e = absurd (none_some d e)
 
 -- rows that are too far, and rows behind them
 pub past_more : (far : ℕ → Distance) (hit : Option Hit) (from mid to : ℕ) → AreAllPast far hit from mid → AreAllPast far hit mid to → AreAllPast far hit from to
@@ -131,16 +170,3 @@ past_more far hit from mid to front back j le lt = go (nat_lt j mid) refl
     go : (b : Bool) → nat_lt j mid ≡ b → is_past hit (far j) ≡ true
     go true f = front j le (ltb-true j mid f)
     go false f = back j (ltb-false j mid f) lt
-
--- the first near row behind rows that are too far is the first of all
-pub near_behind : (far : ℕ → Distance) (hit : Option Hit) (from mid to i : ℕ) (d : Distance) → from ≤ mid → AreAllPast far hit from mid → IsFirstNear far hit mid to i d → IsFirstNear far hit from to i d
-near_behind far hit from mid to i d low front first = record {
-  start = omega (arith, low, first.start);
-  within = first.within;
-  same = first.same;
-  before = past_more far hit from mid i front first.before;
-}
-
--- the first near row of the rows in front is the first of all
-pub near_before : (far : ℕ → Distance) (hit : Option Hit) (from mid to i : ℕ) (d : Distance) → mid ≤ to → IsFirstNear far hit from mid i d → IsFirstNear far hit from to i d
-near_before far hit from mid to i d low first = record { start = first.start; within = omega (arith, low, first.within); same = first.same; before = first.before }

@@ -1,5 +1,5 @@
 -- When a row is too far to be kept; only proofs need it.
-use Rattle.std.specs.Prelude.{◌≡◌, ℕ, ◌/◌, ◌<◌, ◌≤◌, Bool, true, false, Option, Some, None}
+use Rattle.std.specs.Prelude.{◌≡◌, ℕ, ◌+◌, ◌*◌, ◌/◌, ◌<◌, ◌≤◌, Bool, true, false, List, slice_get, Option, Some, None}
 use Rattle.std.specs.Ordering.{is_lt}
 use Rattle.row_types.specs.declared.hits.Distance.{Distance}
 use Rattle.row_types.specs.declared.hits.Hit.{Hit}
@@ -14,12 +14,16 @@ is_past (Some last) distance = is_lt (value_cmp last.distance distance)
 abbrev pub AreAllPast : (ℕ → Distance) → Option Hit → ℕ → ℕ → Type 0
 AreAllPast far hit from to = (j : ℕ) → from ≤ j → j < to → is_past hit (far j) ≡ true
 
--- a row from a number up to another, with its distance, where all rows before it are past a hit
-pub record IsFirstNear (far : ℕ → Distance) (hit : Option Hit) (from to i : ℕ) (distance : Distance) : Type 0 where
-  pub start : from ≤ i
-  pub within : i < to
-  pub same : distance ≡ far i
-  pub before : AreAllPast far hit from i
+-- distances are those of the rows from a number on
+abbrev pub AreDistancesFrom : (ℕ → Distance) → ℕ → List Distance → Type 0
+AreDistancesFrom far from distances = (j : ℕ) (d : Distance) → slice_get distances j ≡ Some d → d ≡ far (from + j)
+
+-- a turn of four rows, from one up to another, with their distances, where all rows of the turns before it are past a hit
+pub record IsNextFour (far : ℕ → Distance) (hit : Option Hit) (from to turn : ℕ) (distances : List Distance) : Type 0 where
+  pub start : from ≤ turn
+  pub within : turn < to
+  pub same : AreDistancesFrom far (4 * turn) distances
+  pub before : AreAllPast far hit (4 * from) (4 * turn)
 
 -- the greatest number of bits that is not past a hit; without one, the greatest number of 32 bits
 abbrev pub whole_of : Option Hit → ℕ

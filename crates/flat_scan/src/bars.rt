@@ -1,6 +1,7 @@
 //! How far a row may be that is still kept.
 
-ghost use Rattle.std.specs.Prelude.{◌≡◌, ◌/◌};
+ghost use Rattle.std.specs.Prelude.{◌≡◌, ◌/◌, ◌≤◌, ◌∷◌, [], true};
+ghost use Rattle.std.specs.List.{AllByRecursion};
 ghost use Rattle.row_types.specs.Hits.{num_of, den_of};
 ghost use Rattle.flat_scan.specs.Bars.{is_past, whole_of, num_in, den_in};
 
@@ -31,8 +32,33 @@ impl Bar {
         }
     }
 
+    // How many of four distances are those of hits that come after the hit, whatever their keys: a sum,
+    // and so without a branch between them.
+    #[inline(always)]
+    pub(crate) fn pasts(
+        &self,
+        first: Distance,
+        second: Distance,
+        third: Distance,
+        fourth: Distance,
+    ) -> u32
+        ensures { 4 ≤ result → AllByRecursion (λ d. is_past self.now.hit d ≡ true) (first ∷ second ∷ third ∷ fourth ∷ []) }
+    {
+        self.past(first) + self.past(second) + self.past(third) + self.past(fourth)
+    }
+
+    // One where a hit at this distance comes after the hit, and else nothing.
+    #[inline(always)]
+    fn past(&self, distance: Distance) -> u32
+        ensures past { 1 ≤ result → is_past self.now.hit distance ≡ true }
+        ensures few { result ≤ 1 }
+    {
+        u32::from(self.is_before(distance))
+    }
+
     // Whether a hit at this distance comes after the hit, whatever its key. Cross products of 32 bits
     // fit 64.
+    #[inline(always)]
     pub(crate) fn is_before(&self, distance: Distance) -> bool
         ensures { result ≡ is_past self.now.hit distance }
     {

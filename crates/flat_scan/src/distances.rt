@@ -1,6 +1,6 @@
 //! The distances of rows that stand together, by metric.
 
-ghost use Rattle.std.specs.Prelude.{◌≡◌, ◌-◌, ◌<◌, ℕ, length};
+ghost use Rattle.std.specs.Prelude.{◌≡◌, ◌+◌, ◌-◌, ◌<◌, ℕ, length};
 ghost use Rattle.row_types.specs.declared.hits.Distance.{Distance};
 ghost use Rattle.row_types.specs.declared.hits.Metric.TheVariants as metrics;
 ghost use Rattle.row_types.specs.Hits.{fraction_of, distance_of};
@@ -9,9 +9,10 @@ ghost use Rattle.flat_scan.specs.Rows.{row_at};
 
 use crate::columns::Column;
 use crate::rows::row_of;
-use bit_distance::{differing_bits, union_bits};
+use bit_distance::{Steps, differing_bits, union_bits};
 use log_model::{Plan, TailRow};
 use row_types::{BitVector, Distance, Metric};
+use std::sync::ledger::Ledger;
 
 /// A distance for each of some rows.
 pub(crate) trait Distances {
@@ -24,6 +25,17 @@ pub(crate) trait Distances {
     fn distance(&self, i: u32) -> Distance
         requires { i < count self.now }
         ensures { result ≡ far self.now i };
+}
+
+/// Measures the distance of a row, which is a step.
+#[inline(always)]
+pub(crate) fn measured<D: Distances, L: Ledger>(far: &D, i: u32, steps: &mut Steps<L>) -> Distance
+    requires { i < D.count far.now }
+    ensures distance { result ≡ D.far far.now i }
+    ensures steps { steps.new ≡ steps.old + 1 }
+{
+    steps.tick();
+    far.distance(i)
 }
 
 /// Hamming distances.

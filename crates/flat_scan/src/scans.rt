@@ -8,12 +8,12 @@ ghost use Rattle.log_model.specs.Places.{IsColumn, width_of};
 ghost use Rattle.journal_model.specs.Views.{Shown};
 ghost use Rattle.top_list.specs.Kept.{Offered, IsBehindAll};
 ghost use Rattle.view_laws.specs.Found.{hits_seen};
-ghost use Rattle.flat_scan.specs.Bars.{AreAllPast, IsFirstNear};
-ghost use Rattle.flat_scan.specs.Rows.{AreDistances, HoldsVectors, HaveVectorsLike, vector_shown};
+ghost use Rattle.flat_scan.specs.Bars.{AreAllPast, IsNextFour};
+ghost use Rattle.flat_scan.specs.Rows.{AreDistances, AreFar, AreOffered, HoldsVectors, HaveVectorsLike, vector_shown};
 
 use crate::bars::Bar;
 use crate::columns::{Column, Fixed, Wide};
-use crate::distances::{ByBits, ByShare, Distances};
+use crate::distances::{ByBits, ByShare, Distances, measured};
 use crate::rows::Rows;
 use bit_distance::Steps;
 use hybrid_time::Timestamp;
@@ -123,7 +123,7 @@ fn offer_column<R: Rows, C: Column, L: Ledger>(
     }
 }
 
-/// Offers rows at their distances, in one step a row.
+/// Offers rows at their distances, in one step a row: four rows a turn, and then the rows that are left.
 pub(crate) fn offer_rows<R: Rows, D: Distances, L: Ledger>(
     rows: &R,
     far: &D,
@@ -136,11 +136,125 @@ pub(crate) fn offer_rows<R: Rows, D: Distances, L: Ledger>(
     ensures steps { steps.new ≡ steps.old + length (R.shown rows.now) }
 {
     let count = rows.len();
+    let fours = count / 4;
     let mut bar = Bar::of(gather.bar());
+    offer_fours(rows, far, fours, asked, &mut bar, gather, steps);
+    offer_ones(rows, far, 4 * fours, asked, &mut bar, gather, steps);
+}
+
+// Offers four times as many rows from the first on, four by four.
+fn offer_fours<R: Rows, D: Distances, L: Ledger>(
+    rows: &R,
+    far: &D,
+    fours: u32,
+    asked: &Asked,
+    bar: &mut Bar,
+    gather: &mut Gather,
+    steps: &mut Steps<L>,
+)
+    requires apart { AreDistances asked.now.plan.now asked.now.query.now (R.shown rows.now) (D.count far.now) (D.far far.now) }
+    requires few { 4 * fours < 2 ^ 32 }
+    requires there { 4 * fours ≤ length (R.shown rows.now) }
+    requires own { gather.old.hits ≡ least gather.old.k gather.old.hits }
+    requires bar { IfSome bar.old.hit (IsBehindAll gather.old) }
+    ensures offered { AreOffered asked.now.ts.0 asked.now.plan.now asked.now.query.now (R.shown rows.now) 0 (4 * fours) gather.old gather.new }
+    ensures own { gather.new.hits ≡ least gather.new.k gather.new.hits }
+    ensures bar { IfSome bar.new.hit (IsBehindAll gather.new) }
+    ensures steps { steps.new ≡ steps.old + 4 * fours }
+{
     let mut from = 0;
-    'rows: while let Some(near) = next_near(far, from, count, &bar, steps) {
-        from = near.i + 1;
-        bar = offer_near(rows, near, asked, bar, gather);
+    'fours: while let Some(four) = next_four(far, from, fours, bar, steps) {
+        from = four.turn + 1;
+        offer_four(rows, &four, asked, bar, gather);
+    }
+}
+
+// Offers the rows from a number on, one by one.
+fn offer_ones<R: Rows, D: Distances, L: Ledger>(
+    rows: &R,
+    far: &D,
+    from: u32,
+    asked: &Asked,
+    bar: &mut Bar,
+    gather: &mut Gather,
+    steps: &mut Steps<L>,
+)
+    requires apart { AreDistances asked.now.plan.now asked.now.query.now (R.shown rows.now) (D.count far.now) (D.far far.now) }
+    requires there { from ≤ length (R.shown rows.now) }
+    requires own { gather.old.hits ≡ least gather.old.k gather.old.hits }
+    requires bar { IfSome bar.old.hit (IsBehindAll gather.old) }
+    ensures offered { AreOffered asked.now.ts.0 asked.now.plan.now asked.now.query.now (R.shown rows.now)
+        from (length (R.shown rows.now)) gather.old gather.new }
+    ensures steps { steps.new + from ≡ steps.old + length (R.shown rows.now) }
+{
+    'rows: for i in from..rows.len() {
+        let distance = measured(far, i, steps);
+        offer_near(rows, Near { i, distance }, asked, bar, gather);
+    }
+}
+
+// Four rows that follow one another, with their distances: those of a turn, of which each has four.
+#[derive(Drop)]
+struct Four {
+    turn: u32,
+    far: [Distance; 4],
+}
+
+// The first four from a turn up to another of which one is not too far, at a step for each row up to
+// its end. A function of its own, and never part of another, so that nothing but distances and the bar
+// is in its loop, with one branch for four rows: at a word or two a row, turns and branches cost as
+// much as the rows. The distances are kept, so that none is measured twice.
+#[inline(never)]
+fn next_four<D: Distances, L: Ledger>(
+    far: &D,
+    from: u32,
+    to: u32,
+    bar: &Bar,
+    steps: &mut Steps<L>,
+) -> Option<Four>
+    requires order { from ≤ to }
+    requires few { 4 * to < 2 ^ 32 }
+    requires there { 4 * to ≤ D.count far.now }
+    ensures near { MatchOption result (AreAllPast (D.far far.now) bar.now.hit (4 * from) (4 * to))
+        (λ four. IsNextFour (D.far far.now) bar.now.hit from to four.turn four.far) }
+    ensures steps { MatchOption result (steps.new + 4 * from ≡ steps.old + 4 * to)
+        (λ four. steps.new + 4 * from ≡ steps.old + 4 * (four.turn + 1)) }
+{
+    'fours: for turn in from..to {
+        let at = 4 * turn;
+        let first = measured(far, at, steps);
+        let second = measured(far, at + 1, steps);
+        let third = measured(far, at + 2, steps);
+        let fourth = measured(far, at + 3, steps);
+        if bar.pasts(first, second, third, fourth) < 4 {
+            return Some(Four {
+                turn,
+                far: [first, second, third, fourth],
+            });
+        }
+    }
+    None
+}
+
+// Offers four rows, of which some may be too far.
+#[inline(never)]
+fn offer_four<R: Rows>(rows: &R, four: &Four, asked: &Asked, bar: &mut Bar, gather: &mut Gather)
+    requires few { 4 * four.now.turn + 4 < 2 ^ 32 }
+    requires there { 4 * four.now.turn + 4 ≤ length (R.shown rows.now) }
+    requires apart { AreFar asked.now.plan.now asked.now.query.now (R.shown rows.now) (4 * four.now.turn) four.now.far }
+    requires own { gather.old.hits ≡ least gather.old.k gather.old.hits }
+    requires bar { IfSome bar.old.hit (IsBehindAll gather.old) }
+    ensures offered { AreOffered asked.now.ts.0 asked.now.plan.now asked.now.query.now (R.shown rows.now)
+        (4 * four.now.turn) (4 * four.now.turn + 4) gather.old gather.new }
+    ensures own { gather.new.hits ≡ least gather.new.k gather.new.hits }
+    ensures bar { IfSome bar.new.hit (IsBehindAll gather.new) }
+{
+    'four: for j in 0..4 {
+        let near = Near {
+            i: 4 * four.turn + j,
+            distance: four.far[j as usize],
+        };
+        offer_near(rows, near, asked, bar, gather);
     }
 }
 
@@ -151,103 +265,31 @@ struct Near {
     distance: Distance,
 }
 
-// The first row from a number on that is not too far, at a step for each row that is looked at. A
-// function of its own, and never part of another, so that nothing but the distance and the bar is in
-// its loops: four rows a turn, since at a word or two a row the turns cost as much as the rows, and
-// then the rows that are left.
-#[inline(never)]
-fn next_near<D: Distances, L: Ledger>(
-    far: &D,
-    from: u32,
-    to: u32,
-    bar: &Bar,
-    steps: &mut Steps<L>,
-) -> Option<Near>
-    requires order { from ≤ to }
-    requires there { to ≤ D.count far.now }
-    ensures near { MatchOption result (AreAllPast (D.far far.now) bar.now.hit from to)
-        (λ near. IsFirstNear (D.far far.now) bar.now.hit from to near.i near.distance) }
-    ensures steps { MatchOption result (steps.new + from ≡ steps.old + to) (λ near. steps.new + from ≡ steps.old + near.i + 1) }
-{
-    let fours = (to - from) / 4;
-    match near_in_fours(far, from, fours, bar, steps) {
-        Some(near) => Some(near),
-        None => near_in(far, from + 4 * fours, (to - from) % 4, bar, steps),
-    }
-}
-
-// The first row that is not too far among four times as many rows from a number on.
-#[inline(always)]
-fn near_in_fours<D: Distances, L: Ledger>(
-    far: &D,
-    from: u32,
-    fours: u32,
-    bar: &Bar,
-    steps: &mut Steps<L>,
-) -> Option<Near>
-    requires few { from + 4 * fours < 2 ^ 32 }
-    requires there { from + 4 * fours ≤ D.count far.now }
-    ensures near { MatchOption result (AreAllPast (D.far far.now) bar.now.hit from (from + 4 * fours))
-        (λ near. IsFirstNear (D.far far.now) bar.now.hit from (from + 4 * fours) near.i near.distance) }
-    ensures steps { MatchOption result (steps.new ≡ steps.old + 4 * fours) (λ near. steps.new + from ≡ steps.old + near.i + 1) }
-{
-    'fours: for turn in 0..fours {
-        if let Some(near) = near_in(far, from + 4 * turn, 4, bar, steps) {
-            return Some(near);
-        }
-    }
-    None
-}
-
-// The first row that is not too far among as many rows from a number on.
-#[inline(always)]
-fn near_in<D: Distances, L: Ledger>(
-    far: &D,
-    from: u32,
-    count: u32,
-    bar: &Bar,
-    steps: &mut Steps<L>,
-) -> Option<Near>
-    requires few { from + count < 2 ^ 32 }
-    requires there { from + count ≤ D.count far.now }
-    ensures near { MatchOption result (AreAllPast (D.far far.now) bar.now.hit from (from + count))
-        (λ near. IsFirstNear (D.far far.now) bar.now.hit from (from + count) near.i near.distance) }
-    ensures steps { MatchOption result (steps.new ≡ steps.old + count) (λ near. steps.new + from ≡ steps.old + near.i + 1) }
-{
-    'rows: for j in 0..count {
-        steps.tick();
-        let i = from + j;
-        let distance = far.distance(i);
-        if !bar.is_before(distance) {
-            return Some(Near { i, distance });
-        }
-    }
-    None
-}
-
-// Offers a row that is near enough, if it is visible and passes, and gives a bar of the list: a hit
+// Offers a row, if it is near enough, is visible and passes, and keeps the bar one of the list: a hit
 // behind which nothing is kept.
-#[inline(never)]
-fn offer_near<R: Rows>(rows: &R, near: Near, asked: &Asked, bar: Bar, gather: &mut Gather) -> Bar
+fn offer_near<R: Rows>(rows: &R, near: Near, asked: &Asked, bar: &mut Bar, gather: &mut Gather)
     ghost s: { Shown }
     requires row { slice_get (R.shown rows.now) near.i ≡ Some s }
     requires below { near.i < length (R.shown rows.now) }
     requires far { near.distance ≡ distance_of asked.now.plan.now.metric asked.now.query.now.vector s.row.vector }
     requires own { gather.old.hits ≡ least gather.old.k gather.old.hits }
-    requires bar { IfSome bar.hit (IsBehindAll gather.old) }
+    requires bar { IfSome bar.old.hit (IsBehindAll gather.old) }
     ensures offered { Offered gather.old gather.new (hits_seen asked.now.ts.0 asked.now.plan.now asked.now.query.now (s ∷ [])) }
-    ensures bar { IfSome result.hit (IsBehindAll gather.new) }
+    ensures bar { IfSome bar.new.hit (IsBehindAll gather.new) }
 {
+    if bar.is_before(near.distance) {
+        return;
+    }
     if !rows.is_visible(near.i, asked.ts) {
-        return bar;
+        return;
     }
     if !rows.passes(near.i, asked.query) {
-        return bar;
+        return;
     }
     let key = rows.key(near.i);
     gather.offer(Hit {
         distance: near.distance,
         key,
     });
-    Bar::of(gather.bar())
+    *bar = Bar::of(gather.bar());
 }
