@@ -4,6 +4,7 @@ use Rattle.std.specs.Option.{option_map, IfSome}
 use Rattle.std.specs.List.{AllByRecursion, count_by}
 use Rattle.std.specs.Ordering.{nat_cmp}
 use Rattle.std.specs.FinMap as fin
+use Rattle.std.specs.Global.{Vec}
 use Rattle.hybrid_time.specs.declared.times.Timestamp.{Timestamp}
 use Rattle.row_types.specs.declared.rows.Kind.{Kind}
 use Rattle.row_types.specs.Bits.{IsDimension}
@@ -171,6 +172,6 @@ pub record IsListOf (dim : ℕ) (kinds : List Kind) (segments : List MarkedSegme
   pub rows_are : map shown_rows parts ≡ places_of segments
   pub shapes : AllByRecursion (HasShape dim kinds) parts
 
-pub record KeepsAll (kinds : List Kind) (tail : MarkedTail) (pieces : List Piece) (places : Table) (list : Option (List SegmentPart)) : Type 0 where
+pub record KeepsAll (kinds : List Kind) (tail : MarkedTail) (pieces : List Piece) (places : Table) (list : Option (Vec SegmentPart)) : Type 0 where
   pub kept : KeepsPieces kinds tail pieces places
-  pub listed : IfSome list (IsListOf tail.dim kinds (map (homed places.segments) pieces))
+  pub listed : IfSome list (λ (parts : Vec SegmentPart). IsListOf tail.dim kinds (map (homed places.segments) pieces) parts.items)

@@ -52,7 +52,7 @@ impl Model for Pieces {
 
     ghost view = { λ p. seen p.kinds p.tail p.segments.items p.places };
 
-    ghost invariant = { λ p. KeepsAll p.kinds p.tail p.segments.items p.places (option_map (λ list. (arc_value list).items) p.list) };
+    ghost invariant = { λ p. KeepsAll p.kinds p.tail p.segments.items p.places (option_map arc_value p.list) };
 }
 
 impl Pieces {

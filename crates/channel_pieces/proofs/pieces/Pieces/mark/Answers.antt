@@ -1,4 +1,4 @@
-use Rattle.std.proofs.Common.{tt, ◌≡◌, List, ℕ, map, ap, ◌∙◌}
+use Rattle.std.proofs.Common.{◌≡◌, List, ℕ, map, ap, ◌∙◌}
 use Rattle.hybrid_time.specs.declared.times.Timestamp.{Timestamp}
 use Rattle.channel_pieces.specs.Pieces.{after_deaths}
 use Rattle.channel_pieces.specs.Fields.{MarkedTail, tail_readied, tail_committed, committed}

@@ -1,4 +1,3 @@
-use Rattle.std.proofs.Common.{tt}
 use Rattle.channel_pieces.proofs.PieceLaws.{new_keeps}
 use Rattle.channel_pieces.proofs.pieces.Pieces.new.Goals as goal
 

@@ -1,4 +1,4 @@
-use Rattle.std.proofs.Common.{tt, true, not, ap, ◌∙◌}
+use Rattle.std.proofs.Common.{true, not, ap, ◌∙◌}
 use Rattle.std.specs.List.{list_any}
 use Rattle.std.specs.Option.{option_map}
 use Rattle.journal_model.specs.declared.notes.Home.{Home}
