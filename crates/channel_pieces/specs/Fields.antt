@@ -4,6 +4,7 @@ use Rattle.std.specs.Option.{option_map, IfSome}
 use Rattle.std.specs.List.{AllByRecursion, count_by}
 use Rattle.std.specs.Ordering.{nat_cmp}
 use Rattle.std.specs.FinMap as fin
+use Rattle.std.specs.Global.{Vec}
 use Rattle.hybrid_time.specs.declared.times.Timestamp.{Timestamp}
 use Rattle.row_types.specs.declared.rows.Kind.{Kind}
 use Rattle.row_types.specs.Bits.{IsDimension}
@@ -16,7 +17,7 @@ use Rattle.seg_sealed.specs.Parts.{SegmentPart, AreDeathsOf, shown_from, shown_r
 use Rattle.place_table.specs.Tables.{Placement, Table}
 use Rattle.channel_pieces.specs.declared.counting.PieceCounts.{PieceCounts}
 use Rattle.channel_pieces.specs.Counting.{is_unmarked}
-use Rattle.channel_pieces.specs.Pieces.{MarkedSegment, MarkedLayout, HasShape, placed_of, marked_by}
+use Rattle.channel_pieces.specs.Pieces.{MarkedSegment, MarkedLayout, HasShape, placed_of, marked_by, places_of}
 
 -- ---- marks that are made of deaths
 
@@ -165,3 +166,12 @@ pub record KeepsPieces (kinds : List Kind) (tail : MarkedTail) (pieces : List Pi
   pub pieces_fit : AllByRecursion (IsPiece tail.dim kinds) pieces
   pub rise : Climb (numbers_of pieces)
   pub placed : (number : ℕ) → option_map (λ p. p.rows) (fin.get places.segments number) ≡ rows_at pieces number
+
+-- a list that is kept for sharing has a part for each home of each segment
+pub record IsListOf (dim : ℕ) (kinds : List Kind) (segments : List MarkedSegment) (parts : List SegmentPart) : Type 0 where
+  pub rows_are : map shown_rows parts ≡ places_of segments
+  pub shapes : AllByRecursion (HasShape dim kinds) parts
+
+pub record KeepsAll (kinds : List Kind) (tail : MarkedTail) (pieces : List Piece) (places : Table) (list : Option (Vec SegmentPart)) : Type 0 where
+  pub kept : KeepsPieces kinds tail pieces places
+  pub listed : IfSome list (λ (parts : Vec SegmentPart). IsListOf tail.dim kinds (map (homed places.segments) pieces) parts.items)

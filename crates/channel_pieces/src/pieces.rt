@@ -1,6 +1,7 @@
 //! The pieces of a channel.
 
 ghost use Rattle.std.specs.Prelude.{◌≡◌, ℕ, ◌<◌, ◌≤◌, ◌^◌, ◌∷◌, [], length, map, true, false, Some, None, IfOk, OnOk, OnErr};
+ghost use Rattle.std.specs.Arc.{arc_value};
 ghost use Rattle.std.specs.Option.{option_map, is_some, IfSome, IsSome};
 ghost use Rattle.std.specs.List.{AllByRecursion, count_by};
 ghost use Rattle.row_types.specs.Bits.{IsDimension};
@@ -37,17 +38,21 @@ pub struct Pieces {
     tail: Tail,
     segments: Vec<SealedPiece>,
     places: Places,
+    // What readers share, until a segment or its homes change.
+    list: Option<Arc<Vec<Part>, Global>>,
 }
 
 impl Model for Pieces {
+    ghost use Rattle.std.specs.Arc.{arc_value};
+    ghost use Rattle.std.specs.Option.{option_map};
     ghost use Rattle.channel_pieces.specs.Pieces.{MarkedLayout};
-    ghost use Rattle.channel_pieces.specs.Fields.{seen, KeepsPieces};
+    ghost use Rattle.channel_pieces.specs.Fields.{seen, KeepsAll};
 
     ghost Value = { MarkedLayout };
 
     ghost view = { λ p. seen p.kinds p.tail p.segments.items p.places };
 
-    ghost invariant = { λ p. KeepsPieces p.kinds p.tail p.segments.items p.places };
+    ghost invariant = { λ p. KeepsAll p.kinds p.tail p.segments.items p.places (option_map arc_value p.list) };
 }
 
 impl Pieces {
@@ -66,6 +71,7 @@ impl Pieces {
             tail,
             segments: Vec::new(alloc),
             places,
+            list: None,
         })
     }
 
@@ -96,6 +102,7 @@ impl Pieces {
         ensures ok { OnOk result (self.new ≡ after_close number self.old) }
         ensures err { OnErr result (self.new ≡ self.old) }
     {
+        self.list = None;
         let rows = self.tail.len();
         self.segments.reserve(1)?;
         let fresh = Marks::new(alloc, 0)?;
@@ -114,6 +121,7 @@ impl Pieces {
         ensures ok { OnOk result (self.new ≡ after_deaths deaths.now self.old) }
         ensures err { OnErr result (self.new ≡ self.old) }
     {
+        self.list = None;
         let sorted = by_position(alloc, deaths)?;
         self.tail.prepare(alloc, sorted.as_slice())?;
         prepare_all(alloc, &mut self.segments, sorted.as_slice())?;
@@ -133,14 +141,22 @@ impl Pieces {
         self.tail.share(alloc)
     }
 
-    /// A part for each home of each segment, in order. Up to where their deaths are marked, the parts
-    /// do not say. Want of memory leaves the pieces as they were.
-    pub fn parts(&mut self, alloc: Global) -> Result<Vec<Part>, Memory>
-        ensures rows { IfOk result (λ parts. map shown_rows parts.items ≡ places_of self.old.segments) }
-        ensures shapes { IfOk result (λ parts. AllByRecursion (HasShape self.old.dim self.old.kinds) parts.items) }
+    /// A part for each home of each segment, in order; calls share the list until a segment or its homes
+    /// change. Up to where their deaths are marked, the parts do not say. Want of memory leaves the
+    /// pieces as they were.
+    pub fn parts(&mut self, alloc: Global) -> Result<Arc<Vec<Part>, Global>, Memory>
+        ensures rows { IfOk result (λ parts. map shown_rows (arc_value parts).items ≡ places_of self.old.segments) }
+        ensures shapes { IfOk result (λ parts. AllByRecursion (HasShape self.old.dim self.old.kinds) (arc_value parts).items) }
         ensures same { self.new ≡ self.old }
     {
-        parts_of(alloc, &mut self.segments, &self.places)
+        if let Some(list) = &self.list {
+            return Ok(Arc::try_clone(list)?);
+        }
+        let parts = parts_of(alloc, &mut self.segments, &self.places)?;
+        let list = Arc::new(alloc, parts)?;
+        let shared = Arc::try_clone(&list)?;
+        self.list = Some(list);
+        Ok(shared)
     }
 
     /// Where a segment stands: at its leader, or on nodes; `None` exactly where it is not there.
@@ -176,6 +192,7 @@ impl Pieces {
         ensures ok { OnOk result (self.new ≡ with_homes number (homes_after_load node) self.old) }
         ensures err { OnErr result (self.new ≡ self.old) }
     {
+        self.list = None;
         // Nothing but memory refuses a load that is asked for so.
         let Ok(()) = self.places.load(number, node) else {
             return Err(Memory);
@@ -191,6 +208,7 @@ impl Pieces {
         requires more { option_map (is_elsewhere (Node node)) (segment_in self.old.segments number) ≡ Some true }
         ensures { self.new ≡ with_homes number (homes_after_release node) self.old }
     {
+        self.list = None;
         match self.places.release(number, node) {
             Ok(()) => {}
             Err(_) => unreachable!(),

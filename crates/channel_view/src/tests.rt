@@ -31,7 +31,7 @@ fn a_view_lends_what_it_was_made_of(rt: HostRuntime) -> Result<(), Memory> {
         Timestamp(5),
         tail,
         marks,
-        Vec::new(alloc),
+        Arc::new(alloc, Vec::new(alloc))?,
     );
     assert_eq!(&rt; view.collection().dim, 8);
     assert_eq!(&rt;

@@ -25,7 +25,7 @@ pub struct View {
     tick: Timestamp,
     tail: SharedTail,
     tail_marks: Marks,
-    parts: Vec<Part>,
+    parts: Arc<Vec<Part>, Global>,
 }
 
 impl Model for View {
@@ -34,9 +34,9 @@ impl Model for View {
 
     ghost Value = { ChannelView };
 
-    ghost view = { λ v. seen_as (arc_value v.collection) v.channel v.floor.0 v.tick.0 v.tail v.tail_marks.deaths v.parts.items };
+    ghost view = { λ v. seen_as (arc_value v.collection) v.channel v.floor.0 v.tick.0 v.tail v.tail_marks.deaths (arc_value v.parts).items };
 
-    ghost invariant = { λ v. IsChannelView (seen_as (arc_value v.collection) v.channel v.floor.0 v.tick.0 v.tail v.tail_marks.deaths v.parts.items) };
+    ghost invariant = { λ v. IsChannelView (seen_as (arc_value v.collection) v.channel v.floor.0 v.tick.0 v.tail v.tail_marks.deaths (arc_value v.parts).items) };
 }
 
 impl View {
@@ -49,14 +49,14 @@ impl View {
         tick: Timestamp,
         tail: SharedTail,
         tail_marks: Marks,
-        parts: Vec<Part>,
+        parts: Arc<Vec<Part>, Global>,
     ) -> View
         requires order { floor.0 ≤ tick.0 }
         requires dim { tail.dim ≡ (arc_value collection).dim }
         requires tail_rows { AreRowsOf (arc_value collection) tail.rows }
         requires marks { AreDeathsOf (length tail.rows) tail_marks.deaths }
-        requires part_rows { AllByRecursion (λ part. AreRowsOf (arc_value collection) part.sealed.rows) parts.items }
-        ensures { result ≡ seen_as (arc_value collection) channel floor.0 tick.0 tail tail_marks.deaths parts.items }
+        requires part_rows { AllByRecursion (λ part. AreRowsOf (arc_value collection) part.sealed.rows) (arc_value parts).items }
+        ensures { result ≡ seen_as (arc_value collection) channel floor.0 tick.0 tail tail_marks.deaths (arc_value parts).items }
     {
         View {
             collection,

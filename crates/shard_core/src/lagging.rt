@@ -1,6 +1,7 @@
 //! Pieces that lag behind their journal, and how they are brought up.
 
 ghost use Rattle.std.specs.Prelude.{◌≡◌, ◌+◌, ◌^◌, ◌<◌, ◌≤◌, ◌++◌, ◌∷◌, [], length, map, drop, true, false, Some, None, is_some, option_to_list, vec_len, vec_capacity, IfOk, OnOk, OnErr};
+ghost use Rattle.std.specs.Arc.{arc_value};
 ghost use Rattle.std.specs.Option.{option_map};
 ghost use Rattle.std.specs.List.{list_any};
 ghost use Rattle.journal_model.specs.Layouts.{homes_after_load, homes_after_release};
@@ -25,6 +26,7 @@ use row_types::Memory;
 use seg_sealed::{Marks, Part};
 use std::alloc::Global;
 use std::marker::Model;
+use std::sync::Arc;
 
 /// The pieces of a channel with what they lack of its journal: rows and boundaries in their order, and
 /// the deaths that are no marks yet. A write adds to these without memory.
@@ -180,9 +182,10 @@ impl Lagging {
         self.pieces.tail(alloc)
     }
 
-    /// A part for each home of each segment, as the pieces have them.
-    pub(crate) fn parts(&mut self, alloc: Global) -> Result<Vec<Part>, Memory>
-        ensures rows { IfOk result (λ parts. map shown_rows parts.items ≡ places_of self.old.pieces.segments) }
+    /// A part for each home of each segment, as the pieces have them; calls share the list until a segment
+    /// or its homes change.
+    pub(crate) fn parts(&mut self, alloc: Global) -> Result<Arc<Vec<Part>, Global>, Memory>
+        ensures rows { IfOk result (λ parts. map shown_rows (arc_value parts).items ≡ places_of self.old.pieces.segments) }
         ensures same { self.new ≡ self.old }
     {
         self.pieces.parts(alloc)

@@ -136,7 +136,7 @@ fn view(rt: &impl Abort, alloc: Global, dead: u32, death: Timestamp) -> Result<V
         Timestamp(6),
         tail(rt, alloc)?,
         Marks::new(alloc, 4)?,
-        vec![in alloc; here, there]?,
+        Arc::new(alloc, vec![in alloc; here, there]?)?,
     ))
 }
 

@@ -26,8 +26,8 @@ pub new-requires-clause-part_rows : goal.new-requires-clause-part_rows
 new-requires-clause-part_rows c =
     let j = c.args.journal.now in
     let shows : shelves_in_pieces c.args.lagging.now.pieces ≡ shelves_of j.channel j.state.notes = shows_journal (arc_value c.args.collection.now) j c.args.lagging.now c.requires.kept c.requires.pending c.requires.deaths in
-    subst (λ (k : Collection). AllByRecursion (λ part. AreRowsOf k part.sealed.rows) c.in_ok-parts.parts.items) (sym c.in_ok-collection.ensures)
-    (part_rows (arc_value c.args.collection.now) j.state.notes c.requires.kept.puts j.channel c.in_ok-parts.parts.items c.len.ensures.sound.rows.correct
+    subst (λ (k : Collection). AllByRecursion (λ part. AreRowsOf k part.sealed.rows) (arc_value c.in_ok-parts.parts).items) (sym c.in_ok-collection.ensures)
+    (part_rows (arc_value c.args.collection.now) j.state.notes c.requires.kept.puts j.channel (arc_value c.in_ok-parts.parts).items c.len.ensures.sound.rows.correct
     (c.in_ok-parts.ensures.rows ∙ ap (λ (l : LaggingPieces). places_of l.pieces.segments) c.in_ok-tail.ensures.same ∙ ap (λ (z : Shelves). places_of z.segments) shows))
 
 pub returns-clause-view : goal.returns-clause-view
@@ -38,7 +38,7 @@ returns-clause-view c =
     (record {
       collection = c.in_ok-collection.ensures;
       channel = c.channel.ensures.number;
-      rows = view_rows j.channel j.state.floor c.floor.result.0 c.tick_now.result.0 j.state.notes c.args.lagging.now.pieces (shown_from c.in_ok-tail.marks.deaths 0 c.in_ok-tail.tail.rows) (map shown_rows c.in_ok-parts.parts.items) shows
+      rows = view_rows j.channel j.state.floor c.floor.result.0 c.tick_now.result.0 j.state.notes c.args.lagging.now.pieces (shown_from c.in_ok-tail.marks.deaths 0 c.in_ok-tail.tail.rows) (map shown_rows (arc_value c.in_ok-parts.parts).items) shows
           c.in_ok-tail.ensures.rows (c.in_ok-parts.ensures.rows ∙ ap (λ (l : LaggingPieces). places_of l.pieces.segments) c.in_ok-tail.ensures.same) c.floor.ensures c.tick_now.ensures;
     })
 

@@ -32,7 +32,7 @@ pub returns-clause-rows : goal.returns-clause-rows
 returns-clause-rows c =
     let h = found c in
     ap (λ r. Some r) c.in_ok-part.ensures.part.rows_are
-    ∙ sym (ap (option_map (λ (s : MarkedSegment). s.rows)) (ap (λ (l : MarkedLayout). segment_in l.segments c.args.number) (sym c.self.view_is) ∙ segment_found c.self.inside.places.segments c.self.inside.segments.items c.in-Some.at c.args.number c.index_mut-piece.result.now c.self.invariant.rise h.within h.is h.number_is))
+    ∙ sym (ap (option_map (λ (s : MarkedSegment). s.rows)) (ap (λ (l : MarkedLayout). segment_in l.segments c.args.number) (sym c.self.view_is) ∙ segment_found c.self.inside.places.segments c.self.inside.segments.items c.in-Some.at c.args.number c.index_mut-piece.result.now c.self.invariant.kept.rise h.within h.is h.number_is))
 
 pub returns-clause-part : goal.returns-clause-part
 returns-clause-part c = c.in_ok-part.ensures.part.number_is ∙ (found c).number_is
@@ -40,6 +40,6 @@ returns-clause-part c = c.in_ok-part.ensures.part.number_is ∙ (found c).number
 pub returns-clause-shape : goal.returns-clause-shape
 returns-clause-shape c =
     let h = found c in
-    let fit = fits_at (IsPiece c.self.inside.tail.dim c.self.inside.kinds) c.self.inside.segments.items c.in-Some.at c.index_mut-piece.result.now c.self.invariant.pieces_fit h.within h.is in
+    let fit = fits_at (IsPiece c.self.inside.tail.dim c.self.inside.kinds) c.self.inside.segments.items c.in-Some.at c.index_mut-piece.result.now c.self.invariant.kept.pieces_fit h.within h.is in
     subst (λ (l : MarkedLayout). HasShape l.dim l.kinds c.in_ok-part.part) c.self.view_is
     (record { dim_is = c.in_ok-part.ensures.part.shape.dim_is ∙ fit.dim_is; kinds_are = c.in_ok-part.ensures.part.shape.kinds_are ∙ fit.kinds_are })

@@ -11,9 +11,9 @@ use Rattle.channel_pieces.proofs.pieces.Pieces.release.Goals as goal
 
 pub unreachable-requires : goal.unreachable-requires
 unreachable-requires c =
-    let on = placed_so c.self.inside.places.segments c.self.inside.segments.items c.args.number (list_any (is_home (Node c.args.node))) true (c.self.invariant.placed c.args.number)
+    let on = placed_so c.self.inside.places.segments c.self.inside.segments.items c.args.number (list_any (is_home (Node c.args.node))) true (c.self.invariant.kept.placed c.args.number)
     (ap (λ (l : MarkedLayout). option_map (is_at (Node c.args.node)) (segment_in l.segments c.args.number)) c.self.view_is ∙ c.requires.there) in
-    let more = placed_so c.self.inside.places.segments c.self.inside.segments.items c.args.number (list_any (λ (other : Home). not (is_home (Node c.args.node) other))) true (c.self.invariant.placed c.args.number)
+    let more = placed_so c.self.inside.places.segments c.self.inside.segments.items c.args.number (list_any (λ (other : Home). not (is_home (Node c.args.node) other))) true (c.self.invariant.kept.placed c.args.number)
     (ap (λ (l : MarkedLayout). option_map (is_elsewhere (Node c.args.node)) (segment_in l.segments c.args.number)) c.self.view_is ∙ c.requires.more) in
     let free = release_free c.self.inside.places.segments c.args.number c.args.node on more in
     let e = c.release.ensures.answer ∙ ap answer_of free in
@@ -22,13 +22,13 @@ unreachable-requires c =
 
 pub invariant_of-self : goal.invariant_of-self
 invariant_of-self c =
-    let h = placed_so c.self.inside.places.segments c.self.inside.segments.items c.args.number (list_any (is_home (Node c.args.node))) true (c.self.invariant.placed c.args.number)
+    let h = placed_so c.self.inside.places.segments c.self.inside.segments.items c.args.number (list_any (is_home (Node c.args.node))) true (c.self.invariant.kept.placed c.args.number)
     (ap (λ (l : MarkedLayout). option_map (is_at (Node c.args.node)) (segment_in l.segments c.args.number)) c.self.view_is ∙ c.requires.there) in
-    change_keeps c.self.inside.kinds c.self.inside.tail c.self.inside.segments.items c.self.inside.places c.release.new.self c.args.number (homes_after_release c.args.node) (list_any (is_home (Node c.args.node))) true c.self.invariant h c.in-Ok.ensures.released
+    record { kept = change_keeps c.self.inside.kinds c.self.inside.tail c.self.inside.segments.items c.self.inside.places c.release.new.self c.args.number (homes_after_release c.args.node) (list_any (is_home (Node c.args.node))) true c.self.invariant.kept h c.in-Ok.ensures.released; listed = tt }
 
 pub returns : goal.returns
 returns c =
-    let h = placed_so c.self.inside.places.segments c.self.inside.segments.items c.args.number (list_any (is_home (Node c.args.node))) true (c.self.invariant.placed c.args.number)
+    let h = placed_so c.self.inside.places.segments c.self.inside.segments.items c.args.number (list_any (is_home (Node c.args.node))) true (c.self.invariant.kept.placed c.args.number)
     (ap (λ (l : MarkedLayout). option_map (is_at (Node c.args.node)) (segment_in l.segments c.args.number)) c.self.view_is ∙ c.requires.there) in
-    change_seen c.self.inside.kinds c.self.inside.tail c.self.inside.segments.items c.self.inside.places c.release.new.self c.args.number (homes_after_release c.args.node) (list_any (is_home (Node c.args.node))) true c.self.invariant h c.in-Ok.ensures.released
+    change_seen c.self.inside.kinds c.self.inside.tail c.self.inside.segments.items c.self.inside.places c.release.new.self c.args.number (homes_after_release c.args.node) (list_any (is_home (Node c.args.node))) true c.self.invariant.kept h c.in-Ok.ensures.released
     ∙ ap (with_homes c.args.number (homes_after_release c.args.node)) c.self.view_is
