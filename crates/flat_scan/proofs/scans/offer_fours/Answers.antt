@@ -1,6 +1,6 @@
 use Rattle.std.proofs.Common.{◌≡◌, ◌+◌, ◌*◌, ◌≤◌, length, subst, arith}
 use Rattle.flat_scan.specs.Rows.{AreOffered}
-use Rattle.flat_scan.proofs.Offers.{passed_offered, are_far}
+use Rattle.flat_scan.proofs.Offers.{passed_offered}
 use Rattle.flat_scan.proofs.scans.offer_fours.Goals as goal
 
 pub fours-preserved : goal.fours-preserved
