@@ -29,10 +29,10 @@ use Rattle.channel_pieces.proofs.PieceLaws.{Places}
 
 -- ---- deaths by rising rows
 
-abbrev Deaths : Type 0
+abbrev pub Deaths : Type 0
 Deaths = List (ℕ × ℕ)
 
-abbrev Rising : Deaths → Type 0
+abbrev pub Rising : Deaths → Type 0
 Rising [] = Unit {0}
 Rising (d ∷ deaths) = AllByRecursion (λ e. d.0 < e.0) deaths × Rising deaths
 
@@ -63,11 +63,11 @@ deaths_rise m deaths e = subst Rising e (sorted_rises (fin.entries m) (fin.entri
 
 -- ---- rows that did not die
 
-none_there : (i : ℕ) (deaths : Deaths) → AllByRecursion (λ d. i < d.0) deaths → death_at i deaths ≡ None
+pub none_there : (i : ℕ) (deaths : Deaths) → AllByRecursion (λ d. i < d.0) deaths → death_at i deaths ≡ None
 none_there i [] all = refl
 none_there i (d ∷ deaths) all = ap (λ b. cond b (Some d.1) (death_at i deaths)) (cmp_other d.0 i (λ e. let h = all.0 in absurd (omega arith))) ∙ none_there i deaths all.1
 
-passed : (d : ℕ × ℕ) (deaths : Deaths) (i : ℕ) (rows : List Placed) → d.0 < i → shown_from (d ∷ deaths) i rows ≡ shown_from deaths i rows
+pub passed : (d : ℕ × ℕ) (deaths : Deaths) (i : ℕ) (rows : List Placed) → d.0 < i → shown_from (d ∷ deaths) i rows ≡ shown_from deaths i rows
 passed d deaths i [] lt = refl
 passed d deaths i (x ∷ rows) lt = ap₂ (λ (o : Option ℕ) l. shown_as x o ∷ l) (ap (λ b. cond b (Some d.1) (death_at i deaths)) (cmp_other d.0 i (λ e. absurd (omega arith)))) (passed d deaths (suc i) rows (omega arith))
 

@@ -4,3 +4,4 @@ pub mod PieceLaws
 pub mod ListLaws
 pub mod HomeLaws
 pub mod CountLaws
+pub mod KeepLaws

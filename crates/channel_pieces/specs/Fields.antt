@@ -16,7 +16,9 @@ use Rattle.seg_sealed.specs.Marks.{Marked, death_at, with_death}
 use Rattle.seg_sealed.specs.Parts.{SegmentPart, AreDeathsOf, shown_from, shown_rows}
 use Rattle.place_table.specs.Tables.{Placement, Table}
 use Rattle.channel_pieces.specs.declared.counting.PieceCounts.{PieceCounts}
+use Rattle.channel_pieces.specs.declared.keeping.KeptRows.{KeptRows}
 use Rattle.channel_pieces.specs.Counting.{is_unmarked}
+use Rattle.channel_pieces.specs.Keeping.{outlives}
 use Rattle.channel_pieces.specs.Pieces.{MarkedSegment, MarkedLayout, HasShape, placed_of, marked_by, places_of}
 
 -- ---- marks that are made of deaths
@@ -130,6 +132,10 @@ abbrev pub counts_after : Bool → List Shown → PieceCounts → PieceCounts
 counts_after waits rows c =
     if waits then record { tail = c.tail; waiting = c.waiting + 1; node_rows = c.node_rows; node_live = c.node_live }
     else record { tail = c.tail; waiting = c.waiting; node_rows = c.node_rows + length rows; node_live = c.node_live + count_by is_unmarked rows }
+
+-- a piece with its rows and those that a floor leaves
+abbrev pub kept_in_piece : ℕ → Piece → KeptRows
+kept_in_piece floor s = record { number = s.number; rows = length s.rows; kept = count_by (outlives floor) s.rows }
 
 -- ---- the pieces of a channel
 

@@ -8,10 +8,12 @@
 
 mod counting;
 mod finds;
+mod keeping;
 mod marking;
 mod pieces;
 mod sealed_pieces;
 mod tails;
 
 pub use crate::counting::PieceCounts;
+pub use crate::keeping::KeptRows;
 pub use crate::pieces::Pieces;

@@ -12,9 +12,11 @@ ghost use Rattle.seg_sealed.specs.Segments.{IsRowOf};
 ghost use Rattle.seg_sealed.specs.Parts.{AreDeathsOf, shown_from, shown_rows};
 ghost use Rattle.channel_pieces.specs.Pieces.{no_pieces, placed_of, with_row, after_close, AreOnce, after_deaths, segment_in, with_homes, is_at, is_elsewhere, numbers_at, places_of, HasShape};
 ghost use Rattle.channel_pieces.specs.Counting.{rows_of, counted, IsLeast};
+ghost use Rattle.channel_pieces.specs.Keeping.{kept_on_nodes};
 
 use crate::counting::{PieceCounts, count_pieces};
 use crate::finds::{find, numbers_with};
+use crate::keeping::{KeptRows, kept_on_nodes};
 use crate::marking::by_position;
 use crate::sealed_pieces::{SealedPiece, commit_all, parts_of, prepare_all};
 use crate::tails::Tail;
@@ -228,6 +230,14 @@ impl Pieces {
         ensures { result ≡ counted self.now }
     {
         count_pieces(self.tail.len(), self.segments.as_slice(), &self.places)
+    }
+
+    /// The segments on nodes, rising: how many rows each has, and how many of them are not dead at or
+    /// before a floor. Walks over marks, and over no rows. Want of memory is the only error.
+    pub fn kept(&self, alloc: Global, floor: Timestamp) -> Result<Vec<KeptRows>, Memory>
+        ensures { IfOk result (λ kept. kept.items ≡ kept_on_nodes floor.0 self.now.segments) }
+    {
+        kept_on_nodes(alloc, self.segments.as_slice(), &self.places, floor)
     }
 
     /// The numbers of the segments that wait at the leader, rising.

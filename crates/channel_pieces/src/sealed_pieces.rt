@@ -7,8 +7,10 @@ ghost use Rattle.seg_sealed.specs.Parts.{AreDeathsOf, shown_rows};
 ghost use Rattle.row_types.specs.declared.rows.Kind.{Kind};
 ghost use Rattle.channel_pieces.specs.Pieces.{HasShape, places_of};
 ghost use Rattle.channel_pieces.specs.Counting.{is_unmarked};
+ghost use Rattle.channel_pieces.specs.Keeping.{outlives};
 ghost use Rattle.channel_pieces.specs.Fields.{Climb, places_in, readied, committed, settled, piece_of, homed, IsPiece, IsPartOf, IsPartOfPiece};
 
+use crate::keeping::count_dead;
 use crate::marking::with_deaths;
 use hybrid_time::Timestamp;
 use journal_model::Home;
@@ -75,6 +77,16 @@ impl SealedPiece {
         // Its contract says that deaths rise by their rows.
         let _deaths = self.marks.deaths();
         u64::from(self.sealed.len()) - self.marks.len()
+    }
+
+    /// How many rows are not dead at or before a floor; walks over the marks alone. Want of memory is
+    /// the only error.
+    pub(crate) fn kept(&self, alloc: Global, floor: Timestamp) -> Result<u64, Memory>
+        ensures { IfOk result (λ kept. kept ≡ count_by (outlives floor.0) self.now.rows) }
+    {
+        let log = self.marks.to_log(alloc, self.sealed.number())?;
+        let dead = count_dead(log.marks.as_slice(), floor);
+        Ok(u64::from(self.sealed.len()) - dead as u64)
     }
 
     /// A part for a reader. Want of memory leaves the piece as it was.

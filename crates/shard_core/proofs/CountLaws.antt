@@ -28,18 +28,18 @@ use Rattle.shard_core.specs.Counting.{is_on, rows_on, waiting_numbers, numbers_o
 
 -- ---- lists
 
-filtered : {X Y : Type 0} (f : X → Y) (p : Y → Bool) (xs : List X) → filter p (map f xs) ≡ map f (filter (λ x. p (f x)) xs)
+pub filtered : {X Y : Type 0} (f : X → Y) (p : Y → Bool) (xs : List X) → filter p (map f xs) ≡ map f (filter (λ x. p (f x)) xs)
 filtered f p [] = refl
 filtered f p (x ∷ xs) = elim (p (f x)) as (λ b. cond b (f x ∷ filter p (map f xs)) (filter p (map f xs)) ≡ map f (cond b (x ∷ filter (λ z. p (f z)) xs) (filter (λ z. p (f z)) xs))) [
   | true ↦ ap (λ l. f x ∷ l) (filtered f p xs)
   | false ↦ filtered f p xs
 ]
 
-length_map : {X Y : Type 0} (f : X → Y) (xs : List X) → length (map f xs) ≡ length xs
+pub length_map : {X Y : Type 0} (f : X → Y) (xs : List X) → length (map f xs) ≡ length xs
 length_map f [] = refl
 length_map f (x ∷ xs) = ap suc (length_map f xs)
 
-map_map : {X Y Z : Type 0} (f : X → Y) (g : Y → Z) (xs : List X) → map g (map f xs) ≡ map (λ x. g (f x)) xs
+pub map_map : {X Y Z : Type 0} (f : X → Y) (g : Y → Z) (xs : List X) → map g (map f xs) ≡ map (λ x. g (f x)) xs
 map_map f g [] = refl
 map_map f g (x ∷ xs) = ap (λ l. g (f x) ∷ l) (map_map f g xs)
 
@@ -67,7 +67,7 @@ module _ (notes : List Note) where
   waiting_shown : (segments : List Segment) → length (filter (is_at Leader) (map (shelf_of notes) segments)) ≡ length (waiting_in segments)
   waiting_shown segments = ap length (filtered (shelf_of notes) (is_at Leader) segments) ∙ length_map (shelf_of notes) (waiting_in segments)
 
-  nodes_shown : (segments : List Segment) → pieces.on_nodes (map (shelf_of notes) segments) ≡ map (shelf_of notes) (on_nodes segments)
+  pub nodes_shown : (segments : List Segment) → pieces.on_nodes (map (shelf_of notes) segments) ≡ map (shelf_of notes) (on_nodes segments)
   nodes_shown segments = filtered (shelf_of notes) (λ (m : MarkedSegment). not (is_at Leader m)) segments
 
   numbers_shown : (home : Home) (segments : List Segment) → numbers_at home (map (shelf_of notes) segments) ≡ map (λ (s : Segment). s.number) (filter (λ s. list_any (is_home home) s.homes) segments)

@@ -13,3 +13,4 @@ pub mod CountLaws
 pub mod PlaceLaws
 pub mod MovedLaws
 pub mod LentLaws
+pub mod GroupLaws

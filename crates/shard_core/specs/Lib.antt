@@ -9,3 +9,4 @@ pub mod Counting
 pub mod Moves
 pub mod Found
 pub mod Least
+pub mod Grouping

@@ -10,6 +10,7 @@ ghost use Rattle.seg_sealed.specs.Parts.{AreDeathsOf, shown_from, shown_rows};
 ghost use Rattle.journal_model.specs.declared.notes.Home.TheVariants.{Leader, Node};
 ghost use Rattle.channel_pieces.specs.Pieces.{no_pieces, placed_of, places_of, numbers_at, segment_in, with_homes, is_at, is_elsewhere};
 ghost use Rattle.channel_pieces.specs.Counting.{rows_of, counted, IsLeast};
+ghost use Rattle.channel_pieces.specs.Keeping.{kept_on_nodes};
 ghost use Rattle.shard_core.specs.Shelves.{shelves_in_pieces};
 ghost use Rattle.shard_core.specs.Steps.{after_pending, after_all, pending_end, is_closing};
 ghost use Rattle.shard_core.specs.Found.{found_with};
@@ -18,7 +19,7 @@ ghost use Rattle.shard_core.specs.Kept.{IsShapedAs, IsSource, IsBehindOf, Pends,
 
 use crate::pending::Pending;
 use channel_journal::{Journal, PutOutcome, RemoveOutcome};
-use channel_pieces::{PieceCounts, Pieces};
+use channel_pieces::{KeptRows, PieceCounts, Pieces};
 use growing_segment::SharedTail;
 use hybrid_time::Timestamp;
 use journal_model::{Home, Kind};
@@ -149,6 +150,14 @@ impl Lagging {
         ensures { result ≡ counted self.now.pieces }
     {
         self.pieces.counts()
+    }
+
+    /// The segments on nodes, as the pieces have them: how many rows each has, and how many of them are
+    /// not dead at or before a floor.
+    pub(crate) fn kept(&self, alloc: Global, floor: Timestamp) -> Result<Vec<KeptRows>, Memory>
+        ensures { IfOk result (λ kept. kept.items ≡ kept_on_nodes floor.0 self.now.pieces.segments) }
+    {
+        self.pieces.kept(alloc, floor)
     }
 
     /// The numbers of the segments that wait at the leader, as the pieces have them.

@@ -6,6 +6,8 @@
 #![tactic(auto)]
 
 mod counting;
+mod grouping;
+mod groups;
 mod keys;
 mod kinds;
 mod lagging;

@@ -202,6 +202,16 @@ impl Bench {
         self.shard.on_node(alloc, node)
     }
 
+    /// The groups of segments that a compaction merges.
+    pub(crate) fn small_groups(&mut self, alloc: Global) -> Result<Vec<Vec<u64>>, Memory> {
+        self.shard.small_groups(alloc)
+    }
+
+    /// The groups of segments that a meet merges.
+    pub(crate) fn meet_groups(&mut self, alloc: Global) -> Result<Vec<Vec<u64>>, Memory> {
+        self.shard.meet_groups(alloc)
+    }
+
     pub(crate) fn choose_node(&self) -> u32 {
         self.shard.choose_node()
     }

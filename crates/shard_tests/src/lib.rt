@@ -7,6 +7,8 @@ mod bench;
 #[cfg(test)]
 mod counts;
 #[cfg(test)]
+mod groups;
+#[cfg(test)]
 mod moves;
 #[cfg(test)]
 mod random_steps;
