@@ -129,6 +129,7 @@ fn view(rt: &impl Abort, alloc: Global, dead: u32, death: Timestamp) -> Result<V
 {
     let here = part(rt, alloc, dead, death)?;
     let there = here.share()?;
+    let parts = Arc::new(alloc, vec![in alloc; here, there]?)?;
     Ok(View::new(
         collection(alloc)?,
         0,
@@ -136,7 +137,7 @@ fn view(rt: &impl Abort, alloc: Global, dead: u32, death: Timestamp) -> Result<V
         Timestamp(6),
         tail(rt, alloc)?,
         Marks::new(alloc, 4)?,
-        Arc::new(alloc, vec![in alloc; here, there]?)?,
+        parts,
     ))
 }
 
