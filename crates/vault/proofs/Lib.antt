@@ -1,0 +1,4 @@
+pub mod Notings
+pub mod Sums
+pub mod Answering
+pub mod Keeping

@@ -1,0 +1,5 @@
+pub mod Names
+pub mod Notes
+pub mod Vaults
+pub mod Stores
+pub mod Under
