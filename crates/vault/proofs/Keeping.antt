@@ -18,7 +18,7 @@ use Rattle.query_node.specs.Fetching.{HasFetchCause, IsUnharmed}
 use Rattle.vault.specs.declared.notes.KeeperCall.TheVariants.{Put, Get}
 use Rattle.vault.specs.declared.notes.Outcome.TheVariants.{Done, Memory, Failed, Lost, Damaged}
 use Rattle.vault.specs.declared.notes.VaultNote.{VaultNote}
-use Rattle.vault.specs.declared.vaults.VaultBase.{VaultBase}
+use Rattle.vault.specs.declared.bases.VaultBase.{VaultBase}
 use Rattle.vault.specs.Notes.{failures_in, failures_as, harms_in, harms_as}
 use Rattle.vault.specs.Vaults.{VaultView, vault_of, base_of, HasRisen, IsVault}
 use Rattle.vault.specs.Under.{put_notes, get_notes, ended}
@@ -129,8 +129,8 @@ module _ (by line : ℕ) (objects : List ℕ) where
 
 -- over a keeper that has the objects nothing was harmed, where it tells its map
 pub unharmed_told : (told : Bool) (kept : Option Objects) (P : Objects → Type 0) (R : Type 0) → told ≡ is_some kept → IfSome kept P → IfSome kept (λ k. P k → R) → told ≡ true → R
-unharmed_told told None P R tells held safe yes = let no : ⊥ = cc in absurd no
-unharmed_told told (Some kept) P R tells held safe yes = safe held
+unharmed_told told None P R tells held safe is = let no : ⊥ = cc in absurd no
+unharmed_told told (Some kept) P R tells held safe is = safe held
 
 pub met_keeps : (notes : List VaultNote) (start met : ℕ) (told : Bool) (kept : Option Objects) (faults room space : ℕ) → IsVault (vault_of notes (base_of start told met) kept faults room)
     → IsVault (vault_of notes (base_of start told (length notes)) kept faults space)

@@ -1,4 +1,3 @@
-pub mod Notings
 pub mod Sums
 pub mod Answering
 pub mod Keeping

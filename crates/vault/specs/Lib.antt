@@ -1,5 +1,6 @@
 pub mod Names
 pub mod Notes
 pub mod Vaults
+pub mod Codes
 pub mod Stores
 pub mod Under

@@ -3,7 +3,7 @@ use Rattle.std.specs.Prelude.{◌≡◌, ℕ, ◌+◌, ◌-◌, ◌^◌, ◌<◌
 use Rattle.turn_facts.specs.Counts.{total}
 use Rattle.manu_edge.specs.Objects.{Objects}
 use Rattle.vault.specs.declared.notes.VaultNote.{VaultNote}
-use Rattle.vault.specs.declared.vaults.VaultBase.{VaultBase}
+use Rattle.vault.specs.declared.bases.VaultBase.{VaultBase}
 use Rattle.vault.specs.Notes.{failures_in, harms_in}
 
 -- the journal, and the base: the keeper's count of faults when the vault was made, whether the keeper tells its map, and the

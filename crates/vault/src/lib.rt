@@ -5,11 +5,15 @@
 //! a damage; the keeper's count of faults rose by at least as many as there are failures in the journal.
 #![tactic(auto)]
 
+mod bases;
 mod notes;
 mod noting;
 mod storing;
+#[cfg(test)]
+mod tests;
 mod vaults;
 
+pub use crate::bases::VaultBase;
 pub use crate::notes::{KeeperCall, Outcome, VaultNote};
 pub use crate::storing::Stored;
-pub use crate::vaults::{Vault, VaultBase};
+pub use crate::vaults::Vault;

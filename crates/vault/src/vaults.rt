@@ -16,6 +16,7 @@ ghost use Rattle.vault.specs.Vaults.{base_of, IsVault};
 ghost use Rattle.vault.specs.Stores.{Stores, faults_of, IfKept};
 ghost use Rattle.vault.specs.Under.{put_notes, get_notes, ended, NamesPut, NamesGot, StoreAnswers};
 
+use crate::bases::VaultBase;
 use crate::notes::{Outcome, VaultNote};
 use crate::noting::{note_gets, note_puts};
 use crate::storing::{Stored, names_of};
@@ -42,22 +43,14 @@ pub struct Vault<K: Keeper> {
     start: Snapshot<K>,
 }
 
-/// What no turn changes of a vault. No value of it is made.
-#[derive(Clone, Copy)]
-pub struct VaultBase {
-    /// The keeper's count of faults when the vault was made.
-    pub start: u64,
-    /// Whether the keeper tells its map.
-    pub told: bool,
-    /// How many notes there were at the last meet.
-    pub met: u64,
-}
-
 impl<K: Keeper> Model for Vault<K> {
     ghost use Rattle.std.specs.Prelude.{is_some, vec_len, vec_capacity};
     ghost use Rattle.vault.specs.Vaults.{VaultView, IsVault, base_of, room_of, vault_of};
+    ghost use Rattle.vault.specs.Codes.{vault_code};
 
     ghost Value = { VaultView };
+
+    ghost coded = { vault_code };
 
     ghost view = { λ v. vault_of v.journal.items (base_of (K.faults v.start.value) (is_some (K.kept v.start.value)) v.met) (K.kept v.keeper) (K.faults v.keeper)
         (room_of (vec_len v.journal) (vec_capacity v.journal)) };
