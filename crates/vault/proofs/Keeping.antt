@@ -4,11 +4,14 @@ use Rattle.std.specs.Prelude.{Result, is_some}
 use Rattle.std.specs.Option.{IfSome}
 use Rattle.std.specs.declared.option.Option.{Option}
 use Rattle.std.specs.declared.option.Option.TheVariants.{None, Some}
+use Rattle.std.specs.FinMap as fin
 use Rattle.turn_facts.specs.Counts.{total}
 use Rattle.manu_edge.specs.Faults.{Rose}
 use Rattle.manu_edge.specs.Objects.{Objects}
 use Rattle.manu_edge.specs.Telling.{TellsAlike}
 use Rattle.seg_sealed.specs.Parts.{SegmentPart}
+use Rattle.part_objects.specs.Spellings.{objects_of}
+use Rattle.part_objects.specs.Keeping.{Holds}
 use Rattle.data_index_node.specs.declared.refusals.FlushError.{FlushError}
 use Rattle.data_index_node.specs.declared.refusals.FlushError.TheVariants as flushed
 use Rattle.data_index_node.specs.Flushing.{HasFlushCause}
@@ -39,14 +42,15 @@ risen_same : (start many faults now : ℕ) → HasRisen start many faults → fa
 risen_same start many faults now h r = omega (arith, h, r)
 
 -- a vault with no note
-pub new_keeps : (kept : Option Objects) (faults room : ℕ) → IsVault (vault_of [] (base_of faults (is_some kept) 0) kept faults room)
-new_keeps kept faults room = record {
-  few = omega arith;
-  failures = let n : total failures_in [] ≡ 0 = total-nil failures_in in omega arith;
-  tells = refl;
-  harms = λ told. total-nil harms_in;
-  met = omega arith;
-}
+pub new_keeps : (notes : List VaultNote) (start faults room : ℕ) (told : Bool) (kept : Option Objects) → notes ≡ [] → start ≡ faults → told ≡ is_some kept → IsVault (vault_of notes (base_of start told 0) kept faults room)
+new_keeps notes start faults room told kept none same tells =
+    let failures : total failures_in notes ≡ 0 = ap (total failures_in) none ∙ total-nil failures_in in
+    let harms : total harms_in notes ≡ 0 = ap (total harms_in) none ∙ total-nil harms_in in
+    let empty : length notes ≡ 0 = ap length none in record { few = omega arith; failures = omega arith; tells = tells; harms = λ is. harms; met = omega arith }
+
+-- how many notes there are, where there was room for them
+pub few_notes : (old later capacity names many : ℕ) → old < 2 ^ 56 → names ≤ min capacity (2 ^ 56 - 1) - old → later ≤ old + names → many ≡ later → many < 2 ^ 56
+few_notes old later capacity names many few room most is = omega (arith, few, room, most, is)
 
 -- the failures and harms that some notes add
 module _ (old later notes : List VaultNote) (base : VaultBase) (kept now : Option Objects) (faults more room space : ℕ) (is : later ≡ old ++ notes) (few : length later < 2 ^ 56) (inv : IsVault (vault_of old base kept faults room))
@@ -128,10 +132,14 @@ module _ (by line : ℕ) (objects : List ℕ) where
       none_keeps old later (get_notes by line objects (Err fetched.Memory)) base kept now faults more room space is few inv alike (λ told. get_harms (Err fetched.Memory) (safe told)) (get_failures (Err fetched.Memory) tt) cause.later
 
 -- over a keeper that has the objects nothing was harmed, where it tells its map
-pub unharmed_told : (told : Bool) (kept : Option Objects) (P : Objects → Type 0) (R : Type 0) → told ≡ is_some kept → IfSome kept P → IfSome kept (λ k. P k → R) → told ≡ true → R
+unharmed_told : (told : Bool) (kept : Option Objects) (P : Objects → Type 0) (R : Type 0) → told ≡ is_some kept → IfSome kept P → IfSome kept (λ k. P k → R) → told ≡ true → R
 unharmed_told told None P R tells held safe is = let no : ⊥ = cc in absurd no
 unharmed_told told (Some kept) P R tells held safe is = safe held
 
-pub met_keeps : (notes : List VaultNote) (start met : ℕ) (told : Bool) (kept : Option Objects) (faults room space : ℕ) → IsVault (vault_of notes (base_of start told met) kept faults room)
-    → IsVault (vault_of notes (base_of start told (length notes)) kept faults space)
-met_keeps notes start met told kept faults room space inv = record { few = inv.few; failures = inv.failures; tells = inv.tells; harms = inv.harms; met = omega arith }
+-- the keeper has the objects of the part, where that is told
+abbrev pub HasAll : SegmentPart → Option Objects → Type 0
+HasAll part kept = IfSome kept (λ objects. Holds (fin.get objects) (objects_of part))
+
+pub unharmed_kept : (part : SegmentPart) (told : Bool) (kept : Option Objects) (got : Result SegmentPart FetchError) → told ≡ is_some kept → HasAll part kept
+    → IfSome kept (λ objects. Holds (fin.get objects) (objects_of part) → IsUnharmed got) → told ≡ true → IsUnharmed got
+unharmed_kept part told kept got tells held safe is = unharmed_told told kept (λ objects. Holds (fin.get objects) (objects_of part)) (IsUnharmed got) tells held safe is

@@ -15,6 +15,9 @@ use Rattle.vault.specs.declared.notes.VaultNote.{VaultNote}
 use Rattle.vault.specs.declared.storing.Stored.{Stored}
 use Rattle.vault.specs.declared.storing.Stored.TheVariants as stored
 use Rattle.vault.specs.Notes.{note_of, alike_notes, notes_up_to, faults_in, faults_as}
+use Rattle.data_index_node.specs.declared.refusals.FlushError.{FlushError}
+use Rattle.data_index_node.specs.declared.refusals.FlushError.TheVariants.{KeepFault, Memory as NoRoom}
+use Rattle.vault.specs.Under.{put_notes, NamesPut}
 use Rattle.vault.specs.Stores.{Stores, faults_of}
 
 module _ {C : Type 0} (f : C → ℕ) where
@@ -119,13 +122,30 @@ module _ (by line : ℕ) where
 
 -- ---- one after another
 
-pub faults_taken : (notes : List VaultNote) (k : ℕ) (note : VaultNote) → k < length notes → note ≡ get_or notes k note → total faults_in (take (k + 1) notes) ≡ total faults_in (take k notes) + faults_in note
-faults_taken notes k note lt is =
-    ap (total faults_in) (take_more notes k note lt) ∙ total_more faults_in (take k notes) (get_or notes k note) ∙ ap (λ (n : VaultNote). total faults_in (take k notes) + faults_in n) (sym is)
-
-pub one_fault : (outcome : Outcome) → faults_as outcome ≤ 1
+one_fault : (outcome : Outcome) → faults_as outcome ≤ 1
 one_fault Done = omega arith
 one_fault Memory = omega arith
 one_fault Failed = omega arith
 one_fault Lost = omega arith
 one_fault (Damaged at want got) = omega arith
+
+pub faults_step : (notes : List VaultNote) (k : ℕ) (d : VaultNote) (failed later : ℕ) → k < length notes → failed ≡ total faults_in (take k notes) → later ≡ failed + faults_as (get_or notes k d).outcome → later ≡ total faults_in (take (k + 1) notes)
+faults_step notes k d failed later lt old new =
+    let more : total faults_in (take (k + 1) notes) ≡ total faults_in (take k notes) + faults_in (get_or notes k d) = ap (total faults_in) (take_more notes k d lt) ∙ total_more faults_in (take k notes) (get_or notes k d) in omega arith
+
+pub faults_few : (notes : List VaultNote) (k : ℕ) (d : VaultNote) (failed later : ℕ) → failed ≤ k → later ≡ failed + faults_as (get_or notes k d).outcome → later ≤ k + 1
+faults_few notes k d failed later few new = let one : faults_as (get_or notes k d).outcome ≤ 1 = one_fault (get_or notes k d).outcome in omega arith
+
+-- ---- puts that ended a store
+
+pub put_failed : (by line : ℕ) (objects : List ℕ) (error : FlushError) (object : ℕ) (old new : List VaultNote) → error ≡ KeepFault object → NamesPut objects (Err error) → new ≡ old ++ put_notes by line objects (Err error)
+    → total faults_in new ≡ total faults_in old + 1
+put_failed by line objects (KeepFault name) object old new e named is =
+    faults_more by line objects (Ok stored.Failed) old new (notes_up_to by line Put name Failed objects) is record { object = name; among = named; noted = inl refl }
+put_failed by line objects NoRoom object old new e named is = let no : ⊥ = cc in absurd no
+
+pub put_wanted : (by line : ℕ) (objects : List ℕ) (error : FlushError) (old new : List VaultNote) → error ≡ NoRoom → new ≡ old ++ put_notes by line objects (Err error) → total faults_in new ≡ total faults_in old + 0
+put_wanted by line objects (KeepFault name) old new e is = let no : ⊥ = cc in absurd no
+put_wanted by line objects NoRoom old new e is =
+    let a : total faults_in new ≡ total faults_in old + total faults_in (alike_notes by line Put Memory objects) = ap (total faults_in) is ∙ total-append faults_in old (alike_notes by line Put Memory objects) in
+    let b : total faults_in (alike_notes by line Put Memory objects) ≡ 0 = alike_none faults_in faults_as (λ note. refl) refl by line Put Memory objects refl in omega arith
