@@ -7,8 +7,10 @@
 #![tactic(auto)]
 
 mod handoffs;
+mod laws;
 mod seats;
 mod turns;
 
 pub use crate::handoffs::{Left, handoff};
+pub use crate::laws::handoffs_tell;
 pub use crate::seats::Seats;

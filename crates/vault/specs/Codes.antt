@@ -52,20 +52,27 @@ outcome_back Lost = refl
 outcome_back (Damaged at want got) = refl
 
 abbrev pub outcome_code : Coded Outcome
-outcome_code = code_by (ℕ × (ℕ × (Option ℕ × Option ℕ))) (coded× coded_ℕ (coded× coded_ℕ (coded× (coded_option coded_ℕ) (coded_option coded_ℕ)))) parts_of outcome_of outcome_back
+outcome_code =
+    code_by (ℕ × (ℕ × (Option ℕ × Option ℕ))) (coded× coded_ℕ (coded× coded_ℕ (coded× (coded_option coded_ℕ) (coded_option coded_ℕ))))
+    parts_of outcome_of outcome_back
 
 abbrev pub note_code : Coded VaultNote
 note_code =
-    code_by (ℕ × (ℕ × (KeeperCall × (ℕ × Outcome)))) (coded× coded_ℕ (coded× coded_ℕ (coded× call_code (coded× coded_ℕ outcome_code)))) (λ n. (n.by, (n.line, (n.call, (n.object, n.outcome)))))
+    code_by (ℕ × (ℕ × (KeeperCall × (ℕ × Outcome)))) (coded× coded_ℕ (coded× coded_ℕ (coded× call_code (coded× coded_ℕ outcome_code))))
+    (λ n. (n.by, (n.line, (n.call, (n.object, n.outcome)))))
     (λ p. record { by = p.0; line = p.1.0; call = p.1.1.0; object = p.1.1.1.0; outcome = p.1.1.1.1 }) (λ _. refl)
 
 abbrev pub base_code : Coded VaultBase
-base_code = code_by (ℕ × (Bool × ℕ)) (coded× coded_ℕ (coded× coded_bool coded_ℕ)) (λ b. (b.start, (b.told, b.met))) (λ p. record { start = p.0; told = p.1.0; met = p.1.1 }) (λ _. refl)
+base_code =
+    code_by (ℕ × (Bool × ℕ)) (coded× coded_ℕ (coded× coded_bool coded_ℕ)) (λ b. (b.start, (b.told, b.met)))
+    (λ p. record { start = p.0; told = p.1.0; met = p.1.1 }) (λ _. refl)
 
 abbrev pub objects_code : Coded Objects
 objects_code = fin.code coded_ℕ (coded_list coded_ℕ)
 
 abbrev pub vault_code : Coded VaultView
 vault_code =
-    code_by (List VaultNote × (VaultBase × (Option Objects × (ℕ × ℕ)))) (coded× (coded_list note_code) (coded× base_code (coded× (coded_option objects_code) (coded× coded_ℕ coded_ℕ))))
-    (λ v. (v.notes, (v.base, (v.kept, (v.faults, v.room))))) (λ p. record { notes = p.0; base = p.1.0; kept = p.1.1.0; faults = p.1.1.1.0; room = p.1.1.1.1 }) (λ _. refl)
+    code_by (List VaultNote × (VaultBase × (Option Objects × (ℕ × ℕ))))
+    (coded× (coded_list note_code) (coded× base_code (coded× (coded_option objects_code) (coded× coded_ℕ coded_ℕ))))
+    (λ v. (v.notes, (v.base, (v.kept, (v.faults, v.room)))))
+    (λ p. record { notes = p.0; base = p.1.0; kept = p.1.1.0; faults = p.1.1.1.0; room = p.1.1.1.1 }) (λ _. refl)

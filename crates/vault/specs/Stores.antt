@@ -35,7 +35,9 @@ module _ (by line : ℕ) where
   -- there was no memory: before any call, or in the puts, or in the gets; then each of these is noted so
   abbrev pub WantsMemory : List ℕ → List VaultNote → Type 0
   WantsMemory objects notes =
-      (notes ≡ []) ⊎ ((notes ≡ alike_notes by line Put Memory objects) ⊎ (notes ≡ alike_notes by line Put Done objects ++ alike_notes by line Get Memory objects))
+      (notes ≡ [])
+      ⊎ ((notes ≡ alike_notes by line Put Memory objects)
+      ⊎ (notes ≡ alike_notes by line Put Done objects ++ alike_notes by line Get Memory objects))
 
   -- the notes of storing a part, by its answer
   abbrev pub Stores : List ℕ → Result Stored NoMemory → List VaultNote → Type 0

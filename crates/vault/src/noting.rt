@@ -83,12 +83,14 @@ pub(crate) fn note_gets(
         Err(FetchError::Lost { object }) => {
             note_up_to(journal, gets, objects, object, Outcome::Lost);
         }
-        Err(FetchError::Damaged {
-            object,
-            at,
-            want,
-            got,
-        }) => {
+        Err(
+            FetchError::Damaged {
+                object,
+                at,
+                want,
+                got,
+            },
+        ) => {
             note_up_to(
                 journal,
                 gets,

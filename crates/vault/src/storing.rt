@@ -25,7 +25,8 @@ pub(crate) fn names_of(alloc: Global, part: &Part) -> Result<Vec<u64>, Memory>
     let segment = sealed.number();
     let mut names = vec![in alloc;
         name_of(segment, ObjectKind::InsertLog),
-        name_of(segment, ObjectKind::DeleteLog)]?;
+        name_of(segment, ObjectKind::DeleteLog),
+    ]?;
     if sealed.lists().is_some() {
         names.push(name_of(segment, ObjectKind::ListFile))?;
     }

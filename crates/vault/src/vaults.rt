@@ -52,11 +52,11 @@ impl<K: Keeper> Model for Vault<K> {
 
     ghost coded = { vault_code };
 
-    ghost view = { λ v. vault_of v.journal.items (base_of (K.faults v.start.value) (is_some (K.kept v.start.value)) v.met) (K.kept v.keeper) (K.faults v.keeper)
-        (room_of (vec_len v.journal) (vec_capacity v.journal)) };
+    ghost view = { λ v. vault_of v.journal.items (base_of (K.faults v.start.value) (is_some (K.kept v.start.value)) v.met)
+        (K.kept v.keeper) (K.faults v.keeper) (room_of (vec_len v.journal) (vec_capacity v.journal)) };
 
-    ghost invariant = { λ v. IsVault (vault_of v.journal.items (base_of (K.faults v.start.value) (is_some (K.kept v.start.value)) v.met) (K.kept v.keeper) (K.faults v.keeper)
-        (room_of (vec_len v.journal) (vec_capacity v.journal))) };
+    ghost invariant = { λ v. IsVault (vault_of v.journal.items (base_of (K.faults v.start.value) (is_some (K.kept v.start.value)) v.met)
+        (K.kept v.keeper) (K.faults v.keeper) (room_of (vec_len v.journal) (vec_capacity v.journal))) };
 }
 
 impl<K: Keeper> Vault<K> {

@@ -11,7 +11,6 @@ use Rattle.vault.proofs.vaults.Vault.store.Goals as goal
 
 pub returns-in-Ok-clause-faults : goal.returns-in-Ok-clause-faults
 returns-in-Ok-clause-faults g c =
-
     let puts : List VaultNote = put_notes c.args.by c.args.line c.as_slice.result.now (Ok c.in-Ok.field-0) in
     let gets : List VaultNote = get_notes c.args.by c.args.line c.as_slice-in-Ok.result.now (ended c.get_all.result) in
     let first : c.put_all.new.self.notes ≡ c.args.self.now.notes ++ puts = c.in-Ok.ensures.notes ∙ ap (λ (l : List VaultNote). l ++ puts) c.in_ok-reserve.ensures.notes in
