@@ -1,6 +1,6 @@
 -- From the notes of puts and gets to those of a store.
-use Rattle.std.proofs.Common.{◌≡◌, ◌≢◌, ℕ, ◌+◌, ◌≤◌, ◌⊎◌, inl, inr, Bool, true, false, cond, List, [], ◌∷◌, ◌++◌, map, Ok, Err, IfOk, refl, ap, sym, ◌∙◌, subst, arith, append_assoc, append-nil}
-use Rattle.std.specs.Prelude.{Result, OnOk, is_some}
+use Rattle.std.proofs.Common.{◌≡◌, ℕ, ◌+◌, ◌≤◌, inl, inr, List, [], ◌∷◌, ◌++◌, map, Ok, Err, IfOk, refl, ap, sym, ◌∙◌, subst, arith}
+use Rattle.std.specs.Prelude.{Result}
 use Rattle.std.specs.Result.{IsErr}
 use Rattle.std.specs.Option.{IfSome}
 use Rattle.std.specs.declared.option.Option.{Option}
@@ -14,21 +14,21 @@ use Rattle.manu_edge.specs.Telling.{TellsAlike}
 use Rattle.seg_sealed.specs.Parts.{SegmentPart}
 use Rattle.part_objects.specs.declared.objects.Object.{Object}
 use Rattle.part_objects.specs.Spellings.{objects_of}
-use Rattle.part_objects.specs.Keeping.{Given, IsIntact, Holds, IsOtherName}
+use Rattle.part_objects.specs.Keeping.{Given, Holds}
 use Rattle.data_index_node.specs.declared.refusals.FlushError.{FlushError}
 use Rattle.data_index_node.specs.declared.refusals.FlushError.TheVariants as flushed
 use Rattle.data_index_node.specs.Flushing.{FailsAt, LeavesOthers, Stores as Flushes}
 use Rattle.query_node.specs.declared.refusals.FetchError.{FetchError}
 use Rattle.query_node.specs.declared.refusals.FetchError.TheVariants as fetched
 use Rattle.query_node.specs.Fetching.{IsReached, Fetches}
-use Rattle.vault.specs.declared.notes.KeeperCall.TheVariants.{Put, Get}
-use Rattle.vault.specs.declared.notes.Outcome.TheVariants.{Done, Memory, Failed, Lost, Damaged}
+use Rattle.vault.specs.declared.notes.KeeperCall.TheVariants.{Put}
+use Rattle.vault.specs.declared.notes.Outcome.TheVariants.{Done, Failed, Lost, Damaged}
 use Rattle.vault.specs.declared.notes.VaultNote.{VaultNote}
 use Rattle.vault.specs.declared.storing.Stored.{Stored}
 use Rattle.vault.specs.declared.storing.Stored.TheVariants as stored
 use Rattle.vault.specs.Names.{names_of}
-use Rattle.vault.specs.Notes.{alike_notes, notes_up_to}
-use Rattle.vault.specs.Stores.{Stores, WantsMemory, IfKept}
+use Rattle.vault.specs.Notes.{alike_notes}
+use Rattle.vault.specs.Stores.{Stores, IfKept}
 use Rattle.vault.specs.Under.{ended, get_notes, NamesPut, NamesGot, StoreAnswers}
 
 -- ---- the objects that errors name

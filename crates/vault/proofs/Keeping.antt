@@ -1,5 +1,5 @@
 -- What every vault keeps, as notes are added.
-use Rattle.std.proofs.Common.{◌≡◌, ℕ, ◌+◌, ◌-◌, ◌^◌, ◌<◌, ◌≤◌, min, Bool, true, false, List, [], ◌∷◌, ◌++◌, length, Ok, Err, refl, ap, sym, ◌∙◌, subst, arith, length-append}
+use Rattle.std.proofs.Common.{◌≡◌, ℕ, ◌+◌, ◌-◌, ◌^◌, ◌<◌, ◌≤◌, min, Bool, true, List, [], ◌++◌, length, Ok, Err, refl, ap, sym, ◌∙◌, subst, arith, length-append}
 use Rattle.std.specs.Prelude.{Result, is_some}
 use Rattle.std.specs.Option.{IfSome}
 use Rattle.std.specs.declared.option.Option.{Option}
@@ -23,7 +23,7 @@ use Rattle.vault.specs.declared.notes.Outcome.TheVariants.{Done, Memory, Failed,
 use Rattle.vault.specs.declared.notes.VaultNote.{VaultNote}
 use Rattle.vault.specs.declared.bases.VaultBase.{VaultBase}
 use Rattle.vault.specs.Notes.{failures_in, failures_as, harms_in, harms_as}
-use Rattle.vault.specs.Vaults.{VaultView, vault_of, base_of, HasRisen, IsVault}
+use Rattle.vault.specs.Vaults.{vault_of, base_of, HasRisen, IsVault}
 use Rattle.vault.specs.Under.{put_notes, get_notes, ended}
 use Rattle.vault.proofs.Sums.{total-nil, total-append, alike_none, up_to_most}
 

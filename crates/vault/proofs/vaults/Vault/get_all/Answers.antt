@@ -1,6 +1,5 @@
-use Rattle.std.proofs.Common.{◌≡◌, ◌≤◌, ◌<◌, ◌^◌, length, sym, subst, ◌∙◌, arith, Ok, Err}
+use Rattle.std.proofs.Common.{◌≡◌, ◌≤◌, ◌<◌, ◌^◌, length, sym, subst, arith, Ok, Err}
 use Rattle.std.specs.Vec.{vec_len, vec_capacity}
-use Rattle.vault.specs.Names.{names_of}
 use Rattle.vault.specs.Under.{NamesGot}
 use Rattle.vault.specs.Vaults.{VaultView, room_of}
 use Rattle.vault.proofs.Answering.{names_got}

@@ -1,4 +1,4 @@
-use Rattle.std.proofs.Common.{◌≡◌, ap}
+use Rattle.std.proofs.Common.{◌≡◌}
 use Rattle.std.specs.Prelude.{is_some}
 use Rattle.vault.proofs.Keeping.{new_keeps}
 use Rattle.vault.proofs.vaults.Vault.new.Goals as goal

@@ -1,9 +1,5 @@
-use Rattle.std.proofs.Common.{◌≡◌, ◌++◌, List, ap, sym, subst, ◌∙◌, append_assoc, Ok, Err, refl, inl, inr}
-use Rattle.row_types.specs.declared.allocation.Memory.{Memory as NoMemory}
+use Rattle.std.proofs.Common.{◌≡◌, ◌++◌, List, ap, sym, ◌∙◌, append_assoc, Ok, Err}
 use Rattle.vault.specs.declared.notes.VaultNote.{VaultNote}
-use Rattle.vault.specs.declared.storing.Stored.TheVariants as stored
-use Rattle.vault.specs.Names.{names_of}
-use Rattle.vault.specs.Stores.{Stores}
 use Rattle.vault.specs.Under.{put_notes, get_notes, ended}
 use Rattle.vault.proofs.Answering.{stores_got}
 use Rattle.vault.proofs.Sums.{faults_more, put_failed, put_wanted}
