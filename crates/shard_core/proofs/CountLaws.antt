@@ -54,7 +54,7 @@ module _ (notes : List Note) where
   live_piece [] = refl
   live_piece (x ∷ xs) = sum_by-cons (λ s. cond (is_unmarked s) 1 0) (shown notes x) (map (shown notes) xs) ∙ ap (λ n. cond (is_alive notes x) 1 0 + n) (live_piece xs) ∙ sym (sum_by-cons (λ y. cond (is_alive notes y) 1 0) x xs)
 
-  rows_shown : (segments : List Segment) → rows_of (map (shelf_of notes) segments) ≡ length (rows_in segments)
+  pub rows_shown : (segments : List Segment) → rows_of (map (shelf_of notes) segments) ≡ length (rows_in segments)
   rows_shown [] = refl
   rows_shown (s ∷ segments) = sum_by-cons (λ (m : MarkedSegment). length m.rows) (shelf_of notes s) (map (shelf_of notes) segments)
       ∙ ap₂ (λ m n. m + n) (length_map (shown notes) s.piece) (rows_shown segments) ∙ sym (length-append s.piece (rows_in segments))
@@ -64,7 +64,7 @@ module _ (notes : List Note) where
   live_shown (s ∷ segments) = sum_by-cons (λ (m : MarkedSegment). count_by is_unmarked m.rows) (shelf_of notes s) (map (shelf_of notes) segments)
       ∙ ap₂ (λ m n. m + n) (live_piece s.piece) (live_shown segments) ∙ sym (sum_by-append (λ x. cond (is_alive notes x) 1 0) s.piece (rows_in segments))
 
-  waiting_shown : (segments : List Segment) → length (filter (is_at Leader) (map (shelf_of notes) segments)) ≡ length (waiting_in segments)
+  pub waiting_shown : (segments : List Segment) → length (filter (is_at Leader) (map (shelf_of notes) segments)) ≡ length (waiting_in segments)
   waiting_shown segments = ap length (filtered (shelf_of notes) (is_at Leader) segments) ∙ length_map (shelf_of notes) (waiting_in segments)
 
   pub nodes_shown : (segments : List Segment) → pieces.on_nodes (map (shelf_of notes) segments) ≡ map (shelf_of notes) (on_nodes segments)
@@ -117,7 +117,7 @@ count_all : (xs : List Placed) → count_by (λ x. true) xs ≡ length xs
 count_all [] = refl
 count_all (x ∷ xs) = sum_by-cons (λ (y : Placed). cond true 1 0) x xs ∙ ap (λ n. 1 + n) (count_all xs) ∙ (let e : 1 + length xs ≡ suc (length xs) = omega arith in e)
 
-few_rows : (notes : List Note) (xs : List Placed) → AreApart xs → AreCorrect notes xs → length xs ≤ length notes
+pub few_rows : (notes : List Note) (xs : List Placed) → AreApart xs → AreCorrect notes xs → length xs ≤ length notes
 few_rows notes xs apart correct =
     let same : length (by_position xs) ≡ length xs = sym (count_all (by_position xs)) ∙ count-by_position (λ x. true) xs ∙ count_all xs in
     let few : 0 + length (by_position xs) ≤ length notes = rise_few 0 (length notes) (by_position xs)

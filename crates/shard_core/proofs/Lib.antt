@@ -10,6 +10,7 @@ pub mod ViewLaws
 pub mod TurnLaws
 pub mod KeyLaws
 pub mod CountLaws
+pub mod PendingLaws
 pub mod PlaceLaws
 pub mod MovedLaws
 pub mod LentLaws

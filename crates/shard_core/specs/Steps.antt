@@ -1,5 +1,5 @@
 -- What is still to be brought up in pieces that lag behind their journal, and what each note adds to that.
-use Rattle.std.specs.Prelude.{ℕ, nat_eq, Bool, true, false, if◌then◌else◌, option_to_list, List, [], ◌∷◌, ◌++◌, map, length, Option, Some, None}
+use Rattle.std.specs.Prelude.{ℕ, ◌+◌, ◌<◌, ◌^◌, nat_eq, Bool, true, false, if◌then◌else◌, option_to_list, List, [], ◌∷◌, ◌++◌, map, length, Option, Some, None}
 use Rattle.std.specs.Option.{option_map}
 use Rattle.hybrid_time.specs.declared.times.Timestamp.{Timestamp}
 use Rattle.log_model.specs.Places.{Placed}
@@ -11,6 +11,7 @@ use Rattle.journal_model.specs.Puts.{effective, effective_put, put_at}
 use Rattle.journal_model.specs.Tables.{ends}
 use Rattle.journal_model.specs.Layouts.{Channel, Layout, number_at, layout_of}
 use Rattle.seg_sealed.specs.Parts.{shown_as}
+use Rattle.channel_pieces.specs.declared.counting.PieceCounts.{PieceCounts}
 use Rattle.channel_pieces.specs.Pieces.{marked_by, segment_marked}
 use Rattle.shard_core.specs.declared.pending.Pending.{Pending}
 use Rattle.shard_core.specs.declared.pending.Pending.TheVariants.{Row, Closed}
@@ -91,3 +92,19 @@ is_move _ = false
 abbrev pub is_closing : ℕ → Pending → Bool
 is_closing number (Row position) = false
 is_closing number (Closed other) = nat_eq other number
+
+-- ---- counts while rows and boundaries are pending
+
+-- a row joins the tail; a boundary makes the tail a segment that waits
+abbrev pub counted_after : PieceCounts → Pending → PieceCounts
+counted_after c (Row position) = record c { tail = c.tail + 1 }
+counted_after c (Closed number) = record c { tail = 0; waiting = c.waiting + 1 }
+
+abbrev pub counted_all : PieceCounts → List Pending → PieceCounts
+counted_all c [] = c
+counted_all c (p ∷ pending) = counted_all (counted_after c p) pending
+
+-- no count on the way passes what 64 bits hold
+abbrev pub Fit : PieceCounts → List Pending → Type 0
+Fit c [] = Unit {0}
+Fit c (p ∷ pending) = (c.tail + 1 < 2 ^ 64) × (c.waiting + 1 < 2 ^ 64) × Fit (counted_after c p) pending

@@ -37,14 +37,15 @@ impl Shard {
         self.lagging.catch_up(alloc, &self.journal)
     }
 
-    /// Brings the pieces up and counts; walks over segments, and over no rows. Want of memory is the only
-    /// error.
+    /// Counts; walks over segments and over what is pending, and over no rows. The pieces are brought up
+    /// only where deaths are open: what no search has asked for is built for none. Want of memory is the
+    /// only error.
     pub fn counts(&mut self, alloc: Global) -> Result<Counts, Memory>
         ensures counts { IfOk result (λ counts. counts_told counts ≡ counts_of self.old.channel self.old.state.notes) }
         ensures same { self.new ≡ self.old }
     {
         let _ = self.journal.len();
-        self.lagging.catch_up(alloc, &self.journal)?;
+        self.lagging.close_deaths(alloc, &self.journal)?;
         Ok(take_counts(&self.journal, &self.lagging))
     }
 
@@ -78,10 +79,9 @@ impl Shard {
     }
 }
 
-/// The counts of pieces that are brought up.
+/// The counts of pieces that lack no death, with what is pending.
 fn take_counts(journal: &Journal, lagging: &Lagging) -> Counts
     requires behind { IsBehindOf journal.now lagging.now }
-    requires pending { lagging.now.pending ≡ [] }
     requires deaths { lagging.now.deaths ≡ [] }
     ensures { counts_told result ≡ counts_of journal.now.channel journal.now.state.notes }
 {

@@ -12,7 +12,7 @@ ghost use Rattle.channel_pieces.specs.Pieces.{no_pieces, placed_of, places_of, n
 ghost use Rattle.channel_pieces.specs.Counting.{rows_of, counted, IsLeast};
 ghost use Rattle.channel_pieces.specs.Keeping.{kept_on_nodes};
 ghost use Rattle.shard_core.specs.Shelves.{shelves_in_pieces};
-ghost use Rattle.shard_core.specs.Steps.{after_pending, after_all, pending_end, is_closing};
+ghost use Rattle.shard_core.specs.Steps.{after_pending, after_all, pending_end, is_closing, counted_after, counted_all, Fit};
 ghost use Rattle.shard_core.specs.Found.{found_with};
 ghost use Rattle.shard_core.specs.Told.{pending_told, deaths_told};
 ghost use Rattle.shard_core.specs.Kept.{IsShapedAs, IsSource, IsBehindOf, Pends, IsNext};
@@ -144,12 +144,29 @@ impl Lagging {
         Ok(())
     }
 
-    /// What the pieces count, as they stand.
+    /// Brings the pieces up where deaths are open, so that none is. Want of memory leaves the pieces behind
+    /// by less, or as they were.
+    pub(crate) fn close_deaths(&mut self, alloc: Global, journal: &Journal) -> Result<(), Memory>
+        requires source { IsSource journal.now self.old.pieces }
+        requires behind { IsBehindOf journal.now self.old }
+        ensures behind { IsBehindOf journal.now self.new }
+        ensures ok { OnOk result (self.new.deaths ≡ []) }
+        ensures shape { IsShapedAs self.old.pieces self.new.pieces }
+        ensures room { self.new.room ≡ self.old.room }
+    {
+        if self.deaths.is_empty() {
+            return Ok(());
+        }
+        self.catch_up(alloc, journal)
+    }
+
+    /// What the pieces count, with what is pending.
     pub(crate) fn counts(&self) -> PieceCounts
         requires few { rows_of self.now.pieces.segments < 2 ^ 64 }
-        ensures { result ≡ counted self.now.pieces }
+        requires fits { Fit (counted self.now.pieces) self.now.pending }
+        ensures { result ≡ counted_all (counted self.now.pieces) self.now.pending }
     {
-        self.pieces.counts()
+        count_pending(self.pieces.counts(), self.pending.as_slice())
     }
 
     /// The segments on nodes, as the pieces have them: how many rows each has, and how many of them are
@@ -268,6 +285,37 @@ fn is_boundary(next: Pending, number: u64) -> bool
     match next {
         Pending::Row { .. } => false,
         Pending::Closed { number: other } => other == number,
+    }
+}
+
+/// The counts of pieces with what is pending.
+fn count_pending(pieces: PieceCounts, pending: &[Pending]) -> PieceCounts
+    requires { Fit pieces pending.now }
+    ensures { result ≡ counted_all pieces pending.now }
+{
+    let mut counts = pieces;
+    'pending: for next in pending {
+        counts = count_next(counts, *next);
+    }
+    counts
+}
+
+/// A row joins the tail; a boundary makes the tail a segment that waits.
+fn count_next(counts: PieceCounts, next: Pending) -> PieceCounts
+    requires tail { counts.tail + 1 < 2 ^ 64 }
+    requires waiting { counts.waiting + 1 < 2 ^ 64 }
+    ensures { result ≡ counted_after counts next }
+{
+    match next {
+        Pending::Row { .. } => PieceCounts {
+            tail: counts.tail + 1,
+            ..counts
+        },
+        Pending::Closed { .. } => PieceCounts {
+            tail: 0,
+            waiting: counts.waiting + 1,
+            ..counts
+        },
     }
 }
 
