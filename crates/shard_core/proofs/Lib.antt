@@ -15,3 +15,6 @@ pub mod PlaceLaws
 pub mod MovedLaws
 pub mod LentLaws
 pub mod GroupLaws
+pub mod LendLaws
+pub mod OrderedLaws
+pub mod MergingLaws

@@ -81,7 +81,7 @@ module _ (notes : List Note) (note : Note) (quiet : (key : ℤ) → ended key no
       ∙ sym (dead_at_past notes x.position x.row.key.0 ge))
       (cases_lt x.position (length notes))
 
-  same_shown : (xs : List Placed) → map (shown (notes ++ note ∷ [])) xs ≡ map (shown notes) xs
+  pub same_shown : (xs : List Placed) → map (shown (notes ++ note ∷ [])) xs ≡ map (shown notes) xs
   same_shown [] = refl
   same_shown (x ∷ xs) = ap₂ (λ (m : Option ℕ) (l : List Shown). record { position = x.position; ts = x.ts; row = x.row; mark = m } ∷ l) (same_death x) (same_shown xs)
 

@@ -1,24 +1,28 @@
 -- Homes that are found, and what refuses calls by them.
-use Rattle.std.proofs.Common.{◌≡◌, ℕ, Bool, true, false, cond, not, ◌||◌, List, [], ◌∷◌, map, Option, Some, None, refl, sym, ap, ap₂, ◌∙◌, inl, inr, eqb-true}
-use Rattle.std.specs.Prelude.{nat_eq}
-use Rattle.std.specs.List.{list_any}
+use Rattle.std.proofs.Common.{◌≡◌, ℕ, ◌+◌, ◌<◌, Bool, true, false, cond, not, length, drop, get_or, ◌||◌, List, [], ◌∷◌, map, Option, Some, None, refl, sym, ap, ap₂, ◌∙◌, inl, inr, eqb-true}
+use Rattle.std.specs.Prelude.{nat_eq, is_some}
+use Rattle.std.specs.List.{AllByRecursion, list_any, list_all}
 use Rattle.std.specs.Option.{option_map, option_or}
 use Rattle.std.proofs.lemmas.Bool.{false≢true}
+use Rattle.std.proofs.lemmas.List.{drop_more}
+use Rattle.log_model.proofs.LogLaws.{each_implied}
+use Rattle.journal_model.proofs.RefusalLaws.{none_without}
+use Rattle.std.proofs.lemmas.Bool.{and_parts}
 use Rattle.journal_model.specs.declared.notes.Home.{Home}
 use Rattle.journal_model.specs.declared.notes.Home.TheVariants.{Leader, Node}
 use Rattle.journal_model.specs.declared.notes.Note.{Note}
 use Rattle.journal_model.specs.declared.refusals.MoveError.{MoveError}
 use Rattle.journal_model.specs.declared.refusals.MoveError.TheVariants.{Gone, Already, LastPlace}
-use Rattle.journal_model.specs.Layouts.{Channel, Segment, Layout, layout_of}
+use Rattle.journal_model.specs.Layouts.{Channel, Segment, Layout, is_home, layout_of}
 use Rattle.journal_model.specs.Lawful.{homes_in, is_there, is_at, is_elsewhere}
 use Rattle.journal_model.specs.Lists.{IsIn}
-use Rattle.journal_model.specs.Refusals.{refused_if, not_at, move_refusal, load_refusal, release_refusal}
+use Rattle.journal_model.specs.Refusals.{refused_if, not_at, move_refusal, load_refusal, release_refusal, is_on_node, first_without, begin_merge_refusal}
 use Rattle.channel_pieces.specs.Pieces.{MarkedSegment, segment_in}
 use Rattle.hybrid_time.specs.declared.times.Timestamp.{Timestamp}
 use Rattle.shard_core.specs.declared.pending.Pending.{Pending}
 use Rattle.shard_core.specs.Shelves.{Shelves, shelf_of, shelves_of, is_shelved, homes_at}
 use Rattle.shard_core.specs.Steps.{caught_up, is_closing}
-use Rattle.shard_core.specs.Found.{found_in, found_with, move_refused, load_refused, release_refused}
+use Rattle.shard_core.specs.Found.{found_in, found_with, move_refused, load_refused, on_nodes_refused, release_refused}
 use Rattle.shard_core.proofs.ShelfLaws.{homes_caught, there_caught}
 
 -- ---- homes that are found
@@ -82,6 +86,21 @@ release_same layout segment node = elim (is_there layout segment) as
     (λ b. release_refused segment (cond b (Some (homes_in layout.segments segment)) None) node
     ≡ option_or (option_or (refused_if (not b) (Gone segment)) (not_at layout segment (Node node))) (refused_if (not (is_elsewhere layout segment node)) (LastPlace segment))) [ true ↦ refl | false ↦ refl ]
 
+no_homes : (segments : List Segment) (number : ℕ) → list_any (λ (s : Segment). nat_eq s.number number) segments ≡ false → homes_in segments number ≡ []
+no_homes [] number e = refl
+no_homes (s ∷ segments) number e = elim (nat_eq s.number number) as
+    (λ b. (b || list_any (λ (z : Segment). nat_eq z.number number) segments) ≡ false → cond b s.homes (homes_in segments number) ≡ []) [
+      | true ↦ λ h. cc
+      | false ↦ λ h. no_homes segments number h
+    ] e
+
+pub merge_same : (layout : Layout) (segment : ℕ) → on_nodes_refused segment (found_in layout segment) ≡ refused_if (not (is_on_node layout segment)) (Gone segment)
+merge_same layout segment = go (is_there layout segment) refl
+  where
+    go : (b : Bool) → is_there layout segment ≡ b → on_nodes_refused segment (cond b (Some (homes_in layout.segments segment)) None) ≡ refused_if (not (is_on_node layout segment)) (Gone segment)
+    go true e = refl
+    go false e = sym (ap (λ (homes : List Home). refused_if (not (list_any (λ home. not (is_home Leader home)) homes)) (Gone segment)) (no_homes layout.segments segment e))
+
 -- a call that nothing refuses is on a segment that is there
 pub there_if : (b : Bool) (why : MoveError) (o : Option MoveError) → option_or (refused_if (not b) why) o ≡ None → b ≡ true
 there_if true why o e = refl
@@ -137,3 +156,31 @@ pub homes_told : (notes : List Note) (segments : List Segment) (number : ℕ) (t
 homes_told notes segments number test b e t =
     let s = is_shown notes segments number e in
     ap (option_map (λ (z : MarkedSegment). test z.homes)) s.is ∙ ap Some (ap test s.homes ∙ t)
+
+-- ---- several segments, one after another
+
+-- a test of the first of some segments, and of those behind it
+pub first_next : (test : ℕ → Bool) (segments : List ℕ) (i d : ℕ) → i < length segments
+    → first_without test (drop i segments) ≡ option_or (refused_if (not (test (get_or segments i d))) (Gone (get_or segments i d))) (first_without test (drop (i + 1) segments))
+first_next test segments i d lt = ap (first_without test) (drop_more segments i d lt)
+
+-- a segment on nodes is there
+homes_there : (segments : List Segment) (number : ℕ) (test : Home → Bool) → list_any test (homes_in segments number) ≡ true → list_any (λ (s : Segment). nat_eq s.number number) segments ≡ true
+homes_there [] number test e = cc
+homes_there (s ∷ segments) number test e = elim (nat_eq s.number number) as
+    (λ b. list_any test (cond b s.homes (homes_in segments number)) ≡ true → (b || list_any (λ (z : Segment). nat_eq z.number number) segments) ≡ true) [
+      | true ↦ λ h. refl
+      | false ↦ λ h. homes_there segments number test h
+    ] e
+
+all_true : (test : ℕ → Bool) (segments : List ℕ) → list_all test segments ≡ true → AllByRecursion (λ n. test n ≡ true) segments
+all_true test [] e = tt
+all_true test (n ∷ segments) e = let h = and_parts (test n) (list_all test segments) e in (h.0, all_true test segments h.1)
+
+-- the segments that a merge may begin with are there, as pieces that are brought up have them
+pub sources_there : (notes : List Note) (layout : Layout) (sources : List ℕ) → begin_merge_refusal layout sources ≡ None
+    → AllByRecursion (λ n. is_some (segment_in (map (shelf_of notes) layout.segments) n) ≡ true) sources
+sources_there notes layout sources free =
+    each_implied (λ n. is_on_node layout n ≡ true) (λ n. is_some (segment_in (map (shelf_of notes) layout.segments) n) ≡ true)
+    (λ n e. ap is_some (is_shown notes layout.segments n (homes_there layout.segments n (λ home. not (is_home Leader home)) e)).is)
+    sources (all_true (is_on_node layout) sources (none_without (is_on_node layout) sources free))

@@ -10,3 +10,4 @@ pub mod Moves
 pub mod Found
 pub mod Least
 pub mod Grouping
+pub mod Merging

@@ -3,17 +3,17 @@
 ghost use Rattle.std.specs.Prelude.{◌≡◌, ◌+◌, ◌^◌, ◌<◌, ◌≤◌, ◌++◌, ◌∷◌, [], length, map, drop, true, false, Some, None, is_some, option_to_list, vec_len, vec_capacity, IfOk, OnOk, OnErr};
 ghost use Rattle.std.specs.Arc.{arc_value};
 ghost use Rattle.std.specs.Option.{option_map};
-ghost use Rattle.std.specs.List.{list_any};
+ghost use Rattle.std.specs.List.{AllByRecursion, list_any};
 ghost use Rattle.journal_model.specs.Layouts.{homes_after_load, homes_after_release};
 ghost use Rattle.channel_journal.specs.Outcomes.{ended_row, sealed_number, segment_number};
 ghost use Rattle.seg_sealed.specs.Parts.{AreDeathsOf, shown_from, shown_rows};
 ghost use Rattle.journal_model.specs.declared.notes.Home.TheVariants.{Leader, Node};
-ghost use Rattle.channel_pieces.specs.Pieces.{no_pieces, placed_of, places_of, numbers_at, segment_in, with_homes, is_at, is_elsewhere};
+ghost use Rattle.channel_pieces.specs.Pieces.{no_pieces, placed_of, places_of, numbers_at, segment_in, with_homes, is_at, is_elsewhere, HasShape};
 ghost use Rattle.channel_pieces.specs.Counting.{rows_of, counted, IsLeast};
 ghost use Rattle.channel_pieces.specs.Keeping.{kept_on_nodes};
 ghost use Rattle.shard_core.specs.Shelves.{shelves_in_pieces};
 ghost use Rattle.shard_core.specs.Steps.{after_pending, after_all, pending_end, is_closing, counted_after, counted_all, Fit};
-ghost use Rattle.shard_core.specs.Found.{found_with};
+ghost use Rattle.shard_core.specs.Found.{found_with, rows_found, found_of};
 ghost use Rattle.shard_core.specs.Told.{pending_told, deaths_told};
 ghost use Rattle.shard_core.specs.Kept.{IsShapedAs, IsSource, IsBehindOf, Pends, IsNext};
 
@@ -235,6 +235,7 @@ impl Lagging {
         requires there { is_some (segment_in self.old.pieces.segments number) ≡ true }
         ensures rows { IfOk result (λ part. Some (shown_rows part) ≡ option_map (λ s. s.rows) (segment_in self.old.pieces.segments number)) }
         ensures number { IfOk result (λ part. part.sealed.number ≡ number) }
+        ensures shape { IfOk result (HasShape self.old.pieces.dim self.old.pieces.kinds) }
         ensures applied { IfOk result (λ part. part.applied ≡ applied) }
         ensures same { self.new ≡ self.old }
     {
@@ -242,6 +243,29 @@ impl Lagging {
             Some(part) => Ok(part),
             None => unreachable!(),
         }
+    }
+
+    /// The parts of segments that the pieces have, in order, which say that deaths are marked up to a
+    /// position.
+    pub(crate) fn lend(
+        &mut self,
+        alloc: Global,
+        numbers: &[u64],
+        applied: u64,
+    ) -> Result<Vec<Part>, Memory>
+        requires there { AllByRecursion (λ number. is_some (segment_in self.old.pieces.segments number) ≡ true) numbers.now }
+        ensures rows { IfOk result (λ parts. found_of parts.items ≡ map (rows_found self.old.pieces.segments) numbers.now) }
+        ensures numbers { IfOk result (λ parts. map (λ part. part.sealed.number) parts.items ≡ numbers.now) }
+        ensures applied { IfOk result (λ parts. AllByRecursion (λ part. part.applied ≡ applied) parts.items) }
+        ensures shapes { IfOk result (λ parts. AllByRecursion (HasShape self.old.pieces.dim self.old.pieces.kinds) parts.items) }
+        ensures same { self.new ≡ self.old }
+    {
+        let mut parts = Vec::with_capacity(alloc, numbers.len())?;
+        'numbers: for number in numbers {
+            let part = self.part(alloc, *number, applied)?;
+            parts.push(part)?;
+        }
+        Ok(parts)
     }
 
     /// Adds a node to the homes of a segment that the pieces have. Want of memory leaves the homes as

@@ -175,7 +175,11 @@ impl Shard {
 }
 
 /// Brings the pieces up, and makes room for a note. Want of memory leaves both worth what they were.
-fn make_ready(alloc: Global, journal: &mut Journal, lagging: &mut Lagging) -> Result<(), Memory>
+pub(crate) fn make_ready(
+    alloc: Global,
+    journal: &mut Journal,
+    lagging: &mut Lagging,
+) -> Result<(), Memory>
     requires source { IsSource journal.old lagging.old.pieces }
     requires behind { IsBehindOf journal.old lagging.old }
     ensures up { OnOk result ((lagging.new.pending ≡ []) × (lagging.new.deaths ≡ [])) }

@@ -3,10 +3,10 @@
 ghost use Rattle.std.specs.Prelude.{◌≡◌, not};
 ghost use Rattle.std.specs.List.{list_any};
 ghost use Rattle.std.specs.Option.{option_map};
-ghost use Rattle.journal_model.specs.declared.notes.Home.TheVariants.{Node};
+ghost use Rattle.journal_model.specs.declared.notes.Home.TheVariants.{Leader, Node};
 ghost use Rattle.journal_model.specs.Layouts.{is_home};
 ghost use Rattle.journal_model.specs.Refusals as refusals;
-ghost use Rattle.shard_core.specs.Found.{not_among, move_refused, load_refused, release_refused};
+ghost use Rattle.shard_core.specs.Found.{not_among, move_refused, load_refused, on_nodes_refused, release_refused};
 ghost use Rattle.shard_core.specs.Least.{least_after, least_next};
 
 use journal_model::{Home, MoveError};
@@ -56,6 +56,27 @@ pub(crate) fn why_not_released(segment: u64, homes: Option<&[Home]>, node: u32) 
         return None;
     }
     Some(MoveError::LastPlace { segment })
+}
+
+/// Why a segment is not merged; `homes` are those of a segment that is there.
+pub(crate) fn why_not_merged(segment: u64, homes: Option<&[Home]>) -> Option<MoveError>
+    ensures { result ≡ on_nodes_refused segment (option_map (λ found. found.now) homes.entry) }
+{
+    match homes {
+        Some(homes) => {
+            if is_on_nodes(homes) {
+                return None;
+            }
+            Some(MoveError::Gone { segment })
+        }
+        None => Some(MoveError::Gone { segment }),
+    }
+}
+
+fn is_on_nodes(homes: &[Home]) -> bool
+    ensures { result ≡ list_any (λ home. not (is_home Leader home)) homes.now }
+{
+    homes.iter().any(|home| !is_same(Home::Leader, *home))
 }
 
 /// Why a segment with these homes is not moved from one.
