@@ -23,28 +23,29 @@ one_more a b c le e f = omega arith
 ordered : (notes : List Note) → IsJournal notes → (xs : List Placed) → AreCorrect notes xs → AreApart xs → AreInOrder xs
 ordered notes journal [] correct apart = tt
 ordered notes journal (x ∷ xs) correct apart =
-    let put : put_at notes x.position ≡ Some x = correct x (inl refl) in
-    (all_from (λ y. PlacedBefore x y ⊎ PlacedBefore y x) xs (λ y i.
-    let there : put_at notes y.position ≡ Some y = correct y (inr i) in
-    ⊎_elim
-    (λ (same : y.position ≡ x.position).
-    let first : count_by (λ z. nat_eq z.position x.position) (x ∷ xs) ≡ 1 + count_by (λ z. nat_eq z.position x.position) xs =
-    count-cons (λ (z : Placed). nat_eq z.position x.position) x xs ∙ ap (λ b. cond {A = ℕ} b 1 0 + count_by (λ (z : Placed). nat_eq z.position x.position) xs) (eq-eqb x.position x.position refl) in
-    let some : 1 ≤ count_by (λ z. nat_eq z.position x.position) xs = count_some (λ (z : Placed). nat_eq z.position x.position) xs y i (eq-eqb y.position x.position same) in
-    let few : count_by (λ z. nat_eq z.position x.position) (x ∷ xs) ≤ 1 = apart x.position in
-    absurd (omega arith))
-    (λ (ne : y.position ≢ x.position).
-    ⊎_elim
-    (λ (lt : x.position < y.position). inl (record { lower = lt; not_later = ts_rises notes journal x y put there lt }))
-    (λ (ge : y.position ≤ x.position).
-    let lt : y.position < x.position = ⊎_elim (λ (h : y.position < x.position). h) (λ (h : x.position ≤ y.position). let same : y.position ≡ x.position = omega arith in absurd (ne same)) (cases_lt y.position x.position) in
-    inr (record { lower = lt; not_later = ts_rises notes journal y x there put lt }))
-    (cases_lt x.position y.position))
-    (cases_eq y.position x.position)),
-    ordered notes journal xs (λ y i. correct y (inr i)) (λ position.
-    let whole : count_by (λ z. nat_eq z.position position) (x ∷ xs) ≤ 1 = apart position in
-    let first : count_by (λ z. nat_eq z.position position) (x ∷ xs) ≡ cond {A = ℕ} (nat_eq x.position position) 1 0 + count_by (λ z. nat_eq z.position position) xs = count-cons (λ (z : Placed). nat_eq z.position position) x xs in
-    omega arith))
+    let put : put_at notes x.position ≡ Some x = correct x (inl refl) in (
+      all_from (λ y. PlacedBefore x y ⊎ PlacedBefore y x) xs (λ y i.
+          let there : put_at notes y.position ≡ Some y = correct y (inr i) in
+          ⊎_elim
+          (λ (same : y.position ≡ x.position).
+          let first : count_by (λ z. nat_eq z.position x.position) (x ∷ xs) ≡ 1 + count_by (λ z. nat_eq z.position x.position) xs =
+          count-cons (λ (z : Placed). nat_eq z.position x.position) x xs ∙ ap (λ b. cond {A = ℕ} b 1 0 + count_by (λ (z : Placed). nat_eq z.position x.position) xs) (eq-eqb x.position x.position refl) in
+          let some : 1 ≤ count_by (λ z. nat_eq z.position x.position) xs = count_some (λ (z : Placed). nat_eq z.position x.position) xs y i (eq-eqb y.position x.position same) in
+          let few : count_by (λ z. nat_eq z.position x.position) (x ∷ xs) ≤ 1 = apart x.position in
+          absurd (omega arith))
+          (λ (ne : y.position ≢ x.position).
+          ⊎_elim
+          (λ (lt : x.position < y.position). inl (record { lower = lt; not_later = ts_rises notes journal x y put there lt }))
+          (λ (ge : y.position ≤ x.position).
+          let lt : y.position < x.position = ⊎_elim (λ (h : y.position < x.position). h) (λ (h : x.position ≤ y.position). let same : y.position ≡ x.position = omega arith in absurd (ne same)) (cases_lt y.position x.position) in
+          inr (record { lower = lt; not_later = ts_rises notes journal y x there put lt }))
+          (cases_lt x.position y.position))
+          (cases_eq y.position x.position)),
+      ordered notes journal xs (λ y i. correct y (inr i)) (λ position.
+          let whole : count_by (λ z. nat_eq z.position position) (x ∷ xs) ≤ 1 = apart position in
+          let first : count_by (λ z. nat_eq z.position position) (x ∷ xs) ≡ cond {A = ℕ} (nat_eq x.position position) 1 0 + count_by (λ z. nat_eq z.position position) xs = count-cons (λ (z : Placed). nat_eq z.position position) x xs in
+          omega arith),
+    )
 
 -- the rows of some of the segments of a sound state
 pub sources_ordered : (channel : Channel) (s : State) → IsSound channel s → (sources : List ℕ) → AreInOrder (rows_in (sources_in sources (layout_of channel s.notes).segments))
