@@ -17,3 +17,4 @@ pub mod GroupLaws
 pub mod LendLaws
 pub mod OrderedLaws
 pub mod MergingLaws
+pub mod MergedLaws
