@@ -18,3 +18,4 @@ pub mod GroupLaws
 pub mod LendLaws
 pub mod OrderedLaws
 pub mod MergingLaws
+pub mod MergedLaws

@@ -1,7 +1,6 @@
 -- Merges that were begun: their parts, and that they stay begun while the journal goes on.
 use Rattle.std.proofs.Common.{◌≡◌, ℕ, suc, ◌+◌, ◌*◌, ◌^◌, ◌<◌, ◌≤◌, true, not, List, [], ◌∷◌, ◌++◌, length, map, take, get_or, Option, Some, None, refl, sym, ap, ap₂, subst, ◌∙◌, append_assoc, append-nil, arith}
 use Rattle.std.specs.List.{AllByRecursion, list_any, sum_by}
-use Rattle.std.specs.Option.{option_map}
 use Rattle.std.proofs.lemmas.List.{map-append, take_more, length_push}
 use Rattle.hybrid_time.specs.declared.times.Timestamp.{Timestamp}
 use Rattle.row_types.specs.declared.rows.Kind.{Kind as ColumnKind}
@@ -25,8 +24,8 @@ use Rattle.seg_sealed.specs.Parts.{SegmentPart, shown_from, shown_rows}
 use Rattle.seg_sealed.specs.Parts as parts
 use Rattle.seg_merge.specs.Merges.{IsLike, AreAlike, AreInOrder, all_rows, rows_of}
 use Rattle.channel_journal.specs.Notes.{with_note}
-use Rattle.channel_pieces.specs.Pieces.{MarkedSegment, MarkedLayout, HasShape, segment_in, placed_of}
-use Rattle.shard_core.specs.Shelves.{Shelves, shelf_of, shelves_of, shelves_in_pieces}
+use Rattle.channel_pieces.specs.Pieces.{MarkedSegment, MarkedLayout, HasShape, placed_of}
+use Rattle.shard_core.specs.Shelves.{Shelves, shelves_of, shelves_in_pieces}
 use Rattle.shard_core.specs.Found.{rows_found, found_of}
 use Rattle.shard_core.specs.Merging.{AreRising, BegunMerging, sources_of, begun_as, IsMergingOf}
 use Rattle.shard_core.proofs.MoveLaws.{same_shown}

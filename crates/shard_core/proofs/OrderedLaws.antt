@@ -1,16 +1,15 @@
 -- The rows of the sources of a merge: no position stands twice, and timestamps do not fall by position.
-use Rattle.std.proofs.Common.{◌≡◌, ◌≢◌, ℕ, ◌+◌, ◌<◌, ◌≤◌, nat_eq, Bool, true, cond, List, [], ◌∷◌, ◌++◌, ap, sym, ◌∙◌, ⊎_elim, inl, inr, eq-eqb, refl, subst, length, map, suc, Some, ◌⊎◌, arith}
-use Rattle.std.specs.List.{AllByRecursion, filter, count_by, sum_by}
+use Rattle.std.proofs.Common.{◌≡◌, ◌≢◌, ℕ, ◌+◌, ◌<◌, ◌≤◌, nat_eq, cond, List, [], ◌∷◌, ◌++◌, ap, ◌∙◌, ⊎_elim, inl, inr, eq-eqb, refl, length, map, suc, Some, ◌⊎◌, arith}
+use Rattle.std.specs.List.{count_by, sum_by}
 use Rattle.std.proofs.lemmas.Bool.{cases_eq, cases_lt}
 use Rattle.log_model.specs.Places.{Placed, PlacedBefore}
 use Rattle.journal_model.specs.declared.notes.Note.{Note}
 use Rattle.journal_model.specs.Journals.{IsJournal}
 use Rattle.journal_model.specs.Puts.{put_at}
 use Rattle.journal_model.specs.Layouts.{Channel, Segment, is_among, sources_in, rows_in, kept_in, layout_of}
-use Rattle.journal_model.specs.Lists.{IsIn}
-use Rattle.journal_model.specs.Runs.{State, IsSound, AreCorrect, AreApart, all_rows}
+use Rattle.journal_model.specs.Runs.{State, IsSound, AreCorrect, AreApart}
 use Rattle.journal_model.specs.Groups.{kept_rows}
-use Rattle.journal_model.specs.Views.{Shown, shown, merged_parts}
+use Rattle.journal_model.specs.Views.{shown, merged_parts}
 use Rattle.journal_model.proofs.ListLaws.{all_from, in_left, count-cons, count_some, count-append}
 use Rattle.journal_model.proofs.PieceLaws.{rows_in-some, count-either}
 use Rattle.journal_model.proofs.PlaceLaws.{ts_rises, length-kept}

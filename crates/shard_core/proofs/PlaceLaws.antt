@@ -1,5 +1,5 @@
 -- Homes that are found, and what refuses calls by them.
-use Rattle.std.proofs.Common.{◌≡◌, ℕ, ◌+◌, ◌<◌, Bool, true, false, cond, not, length, drop, get_or, ◌||◌, List, [], ◌∷◌, map, Option, Some, None, refl, sym, ap, ap₂, ◌∙◌, inl, inr, eqb-true}
+use Rattle.std.proofs.Common.{◌≡◌, ℕ, ◌+◌, ◌<◌, Bool, true, false, cond, not, length, drop, get_or, ◌||◌, ◌&&◌, List, [], ◌∷◌, map, Option, Some, None, refl, sym, ap, ap₂, ◌∙◌, inl, inr, eqb-true}
 use Rattle.std.specs.Prelude.{nat_eq, is_some}
 use Rattle.std.specs.List.{AllByRecursion, list_any, list_all}
 use Rattle.std.specs.Option.{option_map, option_or}
@@ -176,6 +176,12 @@ homes_there (s ∷ segments) number test e = elim (nat_eq s.number number) as
 all_true : (test : ℕ → Bool) (segments : List ℕ) → list_all test segments ≡ true → AllByRecursion (λ n. test n ≡ true) segments
 all_true test [] e = tt
 all_true test (n ∷ segments) e = let h = and_parts (test n) (list_all test segments) e in (h.0, all_true test segments h.1)
+
+pub on_nodes_there : (layout : Layout) (sources : List ℕ) → list_all (is_on_node layout) sources ≡ true → list_all (is_there layout) sources ≡ true
+on_nodes_there layout [] e = refl
+on_nodes_there layout (n ∷ sources) e =
+    let h = and_parts (is_on_node layout n) (list_all (is_on_node layout) sources) e in
+    ap₂ (λ a b. a && b) (homes_there layout.segments n (λ home. not (is_home Leader home)) h.0) (on_nodes_there layout sources h.1)
 
 -- the segments that a merge may begin with are there, as pieces that are brought up have them
 pub sources_there : (notes : List Note) (layout : Layout) (sources : List ℕ) → begin_merge_refusal layout sources ≡ None

@@ -25,7 +25,7 @@ mod turns;
 pub use crate::counting::Counts;
 pub use crate::keys::channel_of;
 pub use crate::laws::{catching_up, looks, moves, notes};
-pub use crate::merge_calls::begun_merges;
+pub use crate::merge_calls::{begun_merges, merged_parts};
 pub use crate::merging::Merging;
 pub use crate::move_calls::begun_moves;
 pub use crate::moving::{Back, Moving};

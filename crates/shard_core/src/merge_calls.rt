@@ -1,17 +1,22 @@
 //! Merges of segments, and lists of their rows.
 
-ghost use Rattle.std.specs.Prelude.{◌≡◌, ◌+◌, ◌<◌, ◌≤◌, ◌⊎◌, ◌++◌, ℕ, List, None, Some, Err, length, IfOk, IfErr, OnOk, OnErr};
+ghost use Rattle.std.specs.Prelude.{◌≡◌, ◌+◌, ◌<◌, ◌≤◌, ◌⊎◌, ◌++◌, ℕ, List, None, Some, Err, length, map, drop, true, IfOk, IfErr, OnOk, OnErr};
 ghost use Rattle.std.specs.List.{sum_by};
 ghost use Rattle.std.specs.Option.{IfSome};
-ghost use Rattle.journal_model.specs.declared.notes.Kind.TheVariants.{Number, Lists};
+ghost use Rattle.journal_model.specs.declared.notes.Kind.TheVariants.{Number, Merge, Lists};
 ghost use Rattle.journal_model.specs.declared.notes.Note.{Note};
 ghost use Rattle.journal_model.specs.declared.refusals.MoveError.TheVariants as error;
 ghost use Rattle.journal_model.specs.Notes.{note_of};
-ghost use Rattle.journal_model.specs.Layouts.{Channel, number_at, sources_in, layout_of};
+ghost use Rattle.journal_model.specs.Layouts.{Channel, number_at, sources_in, merged_piece, layout_of};
 ghost use Rattle.journal_model.specs.Groups.{kept_rows};
-ghost use Rattle.journal_model.specs.Refusals.{begin_merge_refusal};
+ghost use Rattle.journal_model.specs.Refusals.{begin_merge_refusal, merge_refusal};
+ghost use Rattle.journal_model.specs.Runs.{State, IsSound, is_step};
+ghost use Rattle.journal_model.specs.Lawful.{IsBegun, given_of};
+ghost use Rattle.journal_model.specs.Views.{StandsFor, advanced};
+ghost use Rattle.seg_sealed.specs.Parts.{SegmentPart, IsMergedPart, shown_rows};
+ghost use Rattle.seg_sealed.specs.Parts as lent;
 ghost use Rattle.shard_core.specs.Moves.{Commits};
-ghost use Rattle.shard_core.specs.Merging.{AreRising, BegunMerging, IsMergingOf, sources_of};
+ghost use Rattle.shard_core.specs.Merging.{AreRising, BegunMerging, IsMergingOf, sources_of, begun_as};
 
 use crate::merging::Merging;
 use crate::move_calls::make_ready;
@@ -92,4 +97,16 @@ impl Shard {
 /// A merge that was begun stays one while the journal goes on. This call does nothing.
 pub fn begun_merges()
     ensures later { (channel : Channel) (notes more : List Note) (m : BegunMerging) → IsMergingOf channel notes m → IsMergingOf channel (notes ++ more) m }
+{}
+
+/// What a merge gives of the parts that were lent stands for its piece while its sources are there, with
+/// the marks of the deaths since it began; and the Merge note that gives a segment exactly where rows are
+/// kept is a step then. This call does nothing.
+pub fn merged_parts()
+    ensures stands { (channel : Channel) (s : State) (m : BegunMerging) (part : SegmentPart) → IsSound channel s → IsMergingOf channel s.notes m
+        → IsMergedPart m.number m.begun m.floor m.parts part → merge_refusal (layout_of channel s.notes) (sources_of m) ≡ None
+        → StandsFor s.notes (map (advanced (drop m.begun s.notes)) (shown_rows part)) (merged_piece s.notes (layout_of channel s.notes) (sources_of m) (begun_as m)) }
+    ensures step { (channel : Channel) (s : State) (m : BegunMerging) (line node : ℕ) → IsSound channel s → IsMergingOf channel s.notes m
+        → IsBegun s.notes (begun_as m) → merge_refusal (layout_of channel s.notes) (sources_of m) ≡ None
+        → is_step channel s (note_of m.by line (Merge (sources_of m) (given_of m.number (length (lent.kept_rows m.floor m.parts))) node)) ≡ true }
 {}

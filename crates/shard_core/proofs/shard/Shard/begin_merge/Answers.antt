@@ -1,8 +1,7 @@
-use Rattle.std.proofs.Common.{◌≡◌, ◌+◌, ◌<◌, ◌≤◌, ◌^◌, ℕ, true, None, List, map, length, refl, sym, ap, ap₂, subst, ◌∙◌, rules, arith}
+use Rattle.std.proofs.Common.{◌≡◌, ◌+◌, ◌<◌, ◌≤◌, ◌^◌, true, None, List, length, refl, sym, ap, ap₂, subst, ◌∙◌, rules, arith}
 use Rattle.std.specs.Prelude.{is_some}
 use Rattle.std.specs.Arc.{arc_value}
 use Rattle.std.specs.List.{AllByRecursion, sum_by}
-use Rattle.hybrid_time.specs.declared.times.Timestamp.{Timestamp}
 use Rattle.journal_model.specs.declared.notes.Kind.TheVariants.{Number}
 use Rattle.journal_model.specs.Notes.{note_of}
 use Rattle.journal_model.specs.Layouts.{Channel, number_at, sources_in, layout_of}
