@@ -1,5 +1,5 @@
 -- What is pending is counted as it would be once it is brought up, and no count on the way is too great.
-use Rattle.std.proofs.Common.{◌≡◌, ℕ, suc, ◌+◌, ◌^◌, ◌<◌, ◌≤◌, Bool, true, false, not, cond, List, [], ◌∷◌, ◌++◌, length, length-append, map, Option, Some, None, refl, sym, ap, ap₂, subst, ◌∙◌, arith}
+use Rattle.std.proofs.Common.{◌≡◌, ℕ, ◌+◌, ◌^◌, ◌<◌, ◌≤◌, Bool, true, false, not, cond, List, [], ◌∷◌, ◌++◌, length, length-append, Option, Some, None, refl, sym, ap, ap₂, subst, ◌∙◌, arith}
 use Rattle.std.specs.List.{AllByRecursion, filter}
 use Rattle.std.proofs.lemmas.List.{length_push}
 use Rattle.std.proofs.lemmas.List.Sums.{sum_by-append}
@@ -68,7 +68,7 @@ rows_next notes s (Row position) = go (put_at notes position)
     go (Some x) = let e : length (s.tail ++ shown_as x None ∷ []) ≡ length s.tail + 1 = length_push s.tail (shown_as x None) in omega arith
 rows_next notes s (Closed number) =
     let e : rows_of (s.segments ++ closed s number ∷ []) ≡ rows_of s.segments + rows_of (closed s number ∷ []) = sum_by-append (λ (m : MarkedSegment). length m.rows) s.segments (closed s number ∷ []) in
-    let f : rows_of (closed s number ∷ []) ≡ length s.tail + 0 = refl in
+    let f : rows_of (closed s number ∷ []) ≡ 0 + length s.tail = refl in
     let h : rows_of s.segments + length s.tail ≤ rows_of (s.segments ++ closed s number ∷ []) + 0 = omega arith in
     h
 

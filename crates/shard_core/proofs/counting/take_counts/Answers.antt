@@ -1,11 +1,11 @@
-use Rattle.std.proofs.Common.{◌≡◌, ℕ, ◌≤◌, ◌<◌, ◌^◌, length, sym, ap, ◌∙◌, arith}
+use Rattle.std.proofs.Common.{◌≡◌, ℕ, ◌≤◌, ◌^◌, length, sym, ap, ◌∙◌, arith}
 use Rattle.journal_model.specs.Counts.{counts_of}
 use Rattle.channel_journal.specs.Notes.{ChannelJournal}
 use Rattle.shard_core.proofs.CountLaws.{shown_counts}
 use Rattle.shard_core.proofs.PendingLaws.{with_pending, shown_pending, counts_pending, pieces_few, pending_fits}
 use Rattle.shard_core.proofs.counting.take_counts.Goals as goal
 
-few_notes : (j : ChannelJournal) (n : ℕ) → n ≡ length j.state.notes → n < 2 ^ 56 → length j.state.notes ≤ 2 ^ 56
+few_notes : (j : ChannelJournal) (n : ℕ) → n ≡ length j.state.notes → n ≤ 2 ^ 56 → length j.state.notes ≤ 2 ^ 56
 few_notes j n e lt = omega arith
 
 pub counts-pieces-requires-clause-few : goal.counts-pieces-requires-clause-few

@@ -10,7 +10,7 @@ pub count_next-counts-requires-clause-tail : goal.count_next-counts-requires-cla
 count_next-counts-requires-clause-tail c = (subst (Fit c.pending.counts) (drop_more c.args.pending.now c.pending.next-index (Row 0) c.pending-test.true) c.pending.invariant.fits).0
 
 pub count_next-counts-requires-clause-waiting : goal.count_next-counts-requires-clause-waiting
-count_next-counts-requires-clause-waiting c = (subst (Fit c.pending.counts) (drop_more c.args.pending.now c.pending.next-index (Row 0) c.pending-test.true) c.pending.invariant.fits).1.0
+count_next-counts-requires-clause-waiting c = (subst (Fit c.pending.counts) (drop_more c.args.pending.now c.pending.next-index (Row 0) c.pending-test.true) c.pending.invariant.fits).1
 
 pub pending-preserved : goal.pending-preserved
 pending-preserved c =
@@ -21,6 +21,6 @@ pending-preserved c =
     let fits : Fit c.pending.counts (next ∷ rest) = subst (Fit c.pending.counts) more c.pending.invariant.fits in
     let same : c.count_next-counts.result ≡ counted_after c.pending.counts next = c.count_next-counts.ensures in
     record {
-      fits = subst (λ (k : PieceCounts). Fit k rest) (sym same) fits.1.1;
+      fits = subst (λ (k : PieceCounts). Fit k rest) (sym same) fits.2;
       rest = ap (λ (k : PieceCounts). counted_all k rest) same ∙ sym (ap (counted_all c.pending.counts) more) ∙ c.pending.invariant.rest;
     }
