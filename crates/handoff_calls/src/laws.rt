@@ -1,0 +1,16 @@
+//! What a handoff owes in its own words. The call does nothing.
+
+ghost use Rattle.std.specs.Prelude.{◌≡◌, ℕ, List};
+ghost use Rattle.turn_facts.specs.Counts.{total};
+ghost use Rattle.journal_model.specs.declared.notes.Note.{Note};
+ghost use Rattle.journal_model.specs.Layouts.{Channel};
+ghost use Rattle.seat_walks.specs.Walks.{Turned};
+ghost use Rattle.vault.specs.declared.notes.VaultNote.{VaultNote};
+ghost use Rattle.vault.specs.Notes.{faults_in};
+ghost use Rattle.handoff_calls.specs.Handoffs.{IsHandoff, notes_of};
+
+/// As many segments are left as the vault's notes have failures, losses and damages.
+pub fn handoffs_tell()
+    ensures left { (channel : Channel) (nodes by keeps line left : ℕ) (turns : List (Turned Note)) (stores : List (Turned VaultNote))
+        → IsHandoff channel nodes by keeps line left turns stores → left ≡ total faults_in (notes_of stores) }
+{}
