@@ -105,3 +105,9 @@ rehomed_all number node (s ∷ segments) = rehomed_one s number node segments (n
 pub load_takes : (channel : Channel) (before : List Note) (by line segment node : ℕ) → WaitsNot channel (before ++ note_of by line (Load segment node) ∷ []) segment
 load_takes channel before by line segment node =
     ap (λ (l : Layout). is_at l segment Leader) (layout-snoc channel before (note_of by line (Load segment node))) ∙ rehomed_all segment node (layout_of channel before).segments
+
+-- the load of a segment from the leader was refused, and not for want of memory
+pub refused_not : (channel : Channel) (s : State) (segment node : ℕ) (home : Home) (why : MoveError) → IsSound channel s → home ≡ Leader → (why ≡ error.Memory → ⊥) → (why ≡ error.Memory) ⊎ (load_refusal (layout_of channel s.notes) segment home node ≡ Some why)
+    → WaitsNot channel s.notes segment
+refused_not channel s segment node home why sound from other (inl e) = absurd (other e)
+refused_not channel s segment node home why sound from other (inr r) = refused_load (layout_of channel s.notes) segment node why sound.segments (subst (λ (h : Home). load_refusal (layout_of channel s.notes) segment h node ≡ Some why) from r)

@@ -85,7 +85,7 @@ fn hand_all<K: Keeper, R: Wait, M: Moments, G: Gate>(
     ensures vault { Stays seats.old.vault seats.new.vault }
 {
     let mut left = 0;
-    for k in 0..segments.len() {
+    'segments: for k in 0..segments.len() {
         let more = hand(alloc, call, front, vaults, seats, channel, segments[k])?;
         left = with_left(left, more);
     }

@@ -119,6 +119,8 @@ fn load_under(
     ensures noted { (notes : List Note) × (shard.new.state.notes ≡ shard.old.state.notes ++ notes)
         × LoadsOrNone shard.old.channel shard.old.collection.nodes by line moving.part.sealed.number result shard.old.state.notes notes }
 {
+    // Its contract says that the state is sound.
+    let _ = shard.floor();
     let node = shard.choose_node();
     match shard.commit_load(alloc, by, line, moving, part, node) {
         Ok(()) => Ok(()),
