@@ -1,13 +1,16 @@
 -- From one segment to the next.
-use Rattle.std.proofs.Common.{◌≡◌, ℕ, ◌+◌, ◌<◌, ◌≤◌, Bool, List, [], ◌∷◌, ◌++◌, length, take, get_or, map, Option, Ok, Err, refl, ap, sym, ◌∙◌, subst, arith, append_assoc, append-nil, true≢false}
+use Rattle.std.proofs.Common.{◌≡◌, ◌≢◌, ℕ, inl, inr, true, false, ◌+◌, ◌<◌, ◌≤◌, Bool, List, [], ◌∷◌, ◌++◌, length, take, get_or, map, Option, Ok, Err, refl, ap, sym, ◌∙◌, subst, arith, append_assoc, append-nil, true≢false}
 use Rattle.std.specs.Prelude.{Result, IfOk}
 use Rattle.std.specs.Result.{IsErr}
 use Rattle.std.proofs.lemmas.List.{map-append, take_more}
+use Rattle.row_types.specs.declared.allocation.Memory.{Memory as NoMemory}
 use Rattle.turn_facts.specs.Counts.{total}
 use Rattle.turn_table.specs.Seats.{SeatView}
 use Rattle.seat_walks.specs.Walks.{Turned, Step, Took, Walks}
 use Rattle.seat_walks.proofs.Walking.{walks_append, walks_same}
 use Rattle.journal_model.specs.declared.notes.Note.{Note}
+use Rattle.journal_model.specs.declared.refusals.MoveError.{MoveError}
+use Rattle.journal_model.specs.declared.refusals.MoveError.TheVariants as error
 use Rattle.journal_model.specs.Layouts.{Channel}
 use Rattle.shard_core.specs.Shards.{ChannelBase}
 use Rattle.call_model.specs.Turns as turns
@@ -17,9 +20,11 @@ use Rattle.vault.specs.declared.bases.VaultBase.{VaultBase}
 use Rattle.vault.specs.Notes as stores
 use Rattle.vault.proofs.Sums.{total-nil, total-cons, total-append}
 use Rattle.handoff_calls.specs.Seats.{DidVault}
-use Rattle.handoff_calls.specs.Handoffs.{Hand, front_in, vault_in, left_in, as_left, all_front, all_vault, notes_of, IsHand, AreHands}
+use Rattle.handoff_calls.specs.Turns.{IsQuietTurn, BeginsOr, LoadsOr}
+use Rattle.handoff_calls.specs.Handoffs.{Hand, Gone, front_in, vault_in, left_in, as_left, all_front, all_vault, notes_of, IsCommitted, IsHand, AreHands}
 use Rattle.handoff_calls.specs.Facts.{AreOfLine}
 use Rattle.handoff_calls.proofs.Counting.{notes-append}
+use Rattle.handoff_calls.proofs.Homes.{begun_not}
 use Rattle.handoff_calls.proofs.Own.{of_line_none, of_line_both}
 
 -- ---- answers
@@ -31,7 +36,7 @@ if_err (Err e) P h = tt
 -- ---- walks
 
 walks_on : {N B : Type 0} (number : N → ℕ) (time : N → Option ℕ) (s m e : SeatView N B) (ts us : List (Turned N)) → Walks number time s (map Took ts) m → Walks number time m (map Took us) e → Walks number time s (map Took (ts ++ us)) e
-walks_on number time s m e ts us d f = subst (λ (steps : List (Step N)). Walks number time s steps e) (sym (map-append Took ts us)) (walks_append number time s m e (map Took ts) (map Took us) d f)
+walks_on {N = N} number time s m e ts us d f = subst (λ (steps : List (Step N)). Walks number time s steps e) (sym (map-append Took ts us)) (walks_append number time s m e (map Took ts) (map Took us) d f)
 
 pub did_on : (s m e : SeatView Note ChannelBase) (ts us : List (Turned Note)) → Did s (map Took ts) m → Did m (map Took us) e → Did s (map Took (ts ++ us)) e
 did_on s m e ts us d f = walks_on turns.by_of turns.time_of s m e ts us d f
@@ -98,6 +103,24 @@ module _ (line : ℕ) where
   done_as s e v w ts ts' us us' a b d =
       subst (λ (l : List (Turned Note)). IsDone line s e v w l us') (sym a) (subst (λ (l : List (Turned VaultNote)). IsDone line s e v w ts l) (sym b) d)
 
+-- ---- one segment
+
+-- a move that was refused: the segment waits no longer
+pub gone_hand : (channel : Channel) (nodes by keeps line segment : ℕ) (t : Turned Note) (why : MoveError) (result : Result Bool NoMemory) → IsQuietTurn channel.number t → BeginsOr channel segment t.before (Err why) → IfOk result (λ left. (left ≡ false) × (why ≢ error.Memory))
+    → IfOk result (λ left. (hand : Hand) × (t ∷ [] ≡ front_in hand) × (◌≡◌ {A = List (Turned VaultNote)} [] (vault_in hand)) × (as_left left ≡ left_in hand) × IsHand channel nodes by keeps line segment hand)
+gone_hand channel nodes by keeps line segment t why (Ok left) quiet (inl e) told = absurd (told.1 e)
+gone_hand channel nodes by keeps line segment t why (Ok left) quiet (inr r) told = (Gone t, refl, refl, ap as_left told.0, (quiet, begun_not channel t.before segment why r))
+gone_hand channel nodes by keeps line segment t why (Err error) quiet begins told = tt
+
+-- a part that was stored, and then loaded by the same seat
+pub committed : (channel : Channel) (nodes by by' keeps line segment segment' : ℕ) (t : Turned Note) → by' ≡ by → segment' ≡ segment → t.slot ≡ channel.number → t.drawn ≡ [] → LoadsOr channel nodes by' line segment' t.before t.notes
+    → IsCommitted channel nodes by keeps line segment t
+committed channel nodes by by' keeps line segment segment' t named numbered slot undrawn loads = record {
+  slot = slot;
+  undrawn = undrawn;
+  loads = subst (λ (n : ℕ). LoadsOr channel nodes n line segment t.before t.notes) named (subst (λ (n : ℕ). LoadsOr channel nodes by' line n t.before t.notes) numbered loads);
+}
+
 -- ---- the segments in turn
 
 -- what was done for one segment, by the seats as they were before
@@ -111,6 +134,10 @@ pub record AreHanded (channel : Channel) (nodes line : ℕ) (s e : SeatView Note
   pub did : IsDone line s e v w (all_front hands) (all_vault hands)
   pub left_is : left ≡ total left_in hands
   pub each : AreHands channel nodes s.number v.number line segments hands
+
+pub left_most : (left : Bool) → as_left left ≤ 1
+left_most true = omega arith
+left_most false = omega arith
 
 module _ (channel : Channel) (nodes line : ℕ) where
   pub handed_none : (s : SeatView Note ChannelBase) (v : SeatView VaultNote VaultBase) → AreHanded channel nodes line s s v v [] 0

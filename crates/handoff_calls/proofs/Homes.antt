@@ -1,10 +1,9 @@
 -- What refuses a move from the leader, and what a load leaves: the segment waits no longer.
 use Rattle.std.proofs.Common.{◌≡◌, ℕ, ◌⊎◌, inl, inr, Bool, true, false, cond, not, List, [], ◌∷◌, ◌++◌, Option, Some, None, refl, sym, ap, ◌∙◌, subst, true≢false}
-use Rattle.std.specs.Prelude.{nat_eq}
+use Rattle.std.specs.Prelude.{nat_eq, is_some}
 use Rattle.std.specs.List.{filter, list_any, AllByRecursion}
 use Rattle.std.specs.Option.{option_or}
 use Rattle.std.proofs.lemmas.Bool.{or_parts}
-use mathlib.Core.Option.{some-ne-none}
 use Rattle.journal_model.specs.declared.notes.Home.{Home}
 use Rattle.journal_model.specs.declared.notes.Home.TheVariants.{Leader, Node}
 use Rattle.journal_model.specs.declared.notes.Kind.TheVariants.{Load}
@@ -32,7 +31,7 @@ leader_alone (Leader ∷ homes) node h at = ap (list_any (is_home (Node node))) 
 leader_alone (Node n ∷ homes) node h at = absurd (true≢false (sym at ∙ nodes_alone homes h))
 
 homes_each : (segments : List Segment) (number : ℕ) → AllByRecursion IsSegment segments → list_any (is_home Leader) (homes_in segments number) ≡ true → AreHomes (homes_in segments number)
-homes_each [] number each at = absurd (true≢false (sym at))
+homes_each [] number each = λ at. absurd (true≢false (sym at))
 homes_each (s ∷ segments) number each =
     elim (nat_eq s.number number) as (λ b. list_any (is_home Leader) (cond b s.homes (homes_in segments number)) ≡ true → AreHomes (cond b s.homes (homes_in segments number))) [
       | true ↦ λ at. each.0.homes
@@ -50,13 +49,13 @@ not_there (s ∷ segments) number h =
 of_two : (t a : Bool) (x y why : MoveError) → option_or (refused_if (not t) x) (refused_if (not a) y) ≡ Some why → (t ≡ false) ⊎ (a ≡ false)
 of_two false a x y why h = inl refl
 of_two true false x y why h = inr refl
-of_two true true x y why h = absurd (some-ne-none why (sym h))
+of_two true true x y why h = absurd (true≢false (sym (ap is_some h)))
 
 of_three : (t a n : Bool) (x y z why : MoveError) → option_or (option_or (refused_if (not t) x) (refused_if (not a) y)) (refused_if n z) ≡ Some why → (t ≡ false) ⊎ ((a ≡ false) ⊎ (n ≡ true))
 of_three false a n x y z why h = inl refl
 of_three true false n x y z why h = inr (inl refl)
 of_three true true true x y z why h = inr (inr refl)
-of_three true true false x y z why h = absurd (some-ne-none why (sym h))
+of_three true true false x y z why h = absurd (true≢false (sym (ap is_some h)))
 
 module _ (layout : Layout) (segment : ℕ) where
   gone : is_there layout segment ≡ false → is_at layout segment Leader ≡ false

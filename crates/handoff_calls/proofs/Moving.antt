@@ -1,8 +1,7 @@
 -- A move in its turns: where it was begun, and where its load is noted.
-use Rattle.std.proofs.Common.{◌≡◌, ℕ, List, [], ◌∷◌, ◌++◌, All, ◌⊎◌, inl, inr, Some, None, Ok, Err, refl, sym, ap, subst}
-use Rattle.std.specs.Prelude.{Result, IfOk, IfErr}
+use Rattle.std.proofs.Common.{◌≡◌, ℕ, List, [], ◌∷◌, ◌++◌, All, ◌⊎◌, inl, inr, Some, None, Ok, Err, refl, sym, ap, subst, true≢false}
+use Rattle.std.specs.Prelude.{Result, IfOk, IfErr, is_some}
 use Rattle.std.proofs.lemmas.List.Elements.{All-nil, All-cons, All-same}
-use mathlib.Core.Option.{some-ne-none}
 use Rattle.row_types.specs.declared.allocation.Memory.{Memory as NoMemory}
 use Rattle.turn_facts.specs.Notes.{IsOwn}
 use Rattle.turn_facts.specs.Prefixes.{StartsWith}
@@ -32,7 +31,7 @@ lent_later channel seen journal m more h = subst (λ (l : List Note). IsMoveOf c
 
 -- a load is a note of its seat, and has no timestamp
 load_own : (by line segment node n : ℕ) → by ≡ n → IsOwn by_of time_of n [] (note_of by line (Load segment node))
-load_own by line segment node n named = record { by = named; at = λ t q. absurd (some-ne-none t (sym q)) }
+load_own by line segment node n named = record { by = named; at = λ t q. absurd (true≢false (sym (ap is_some q))) }
 
 module _ (channel : Channel) (nodes by line segment n : ℕ) (named : by ≡ n) (before : List Note) where
   pub loads_own : (result : Result (Unit {0}) NoMemory) (notes : List Note) → LoadsOrNone channel nodes by line segment result before notes → All (IsOwn by_of time_of n []) notes

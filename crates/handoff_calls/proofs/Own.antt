@@ -1,8 +1,7 @@
 -- Whose the notes of a store are.
-use Rattle.std.proofs.Common.{◌≡◌, ℕ, ◌==◌, ◌⊎◌, inl, inr, Bool, true, false, cond, List, [], ◌∷◌, ◌++◌, All, Ok, Err, refl, ap, sym, ◌∙◌, subst, arith, ne_eqb, append-nil}
-use Rattle.std.specs.Prelude.{Result, ◌+◌}
+use Rattle.std.proofs.Common.{◌≡◌, ℕ, ◌==◌, ◌⊎◌, inl, inr, Bool, true, false, cond, List, [], ◌∷◌, ◌++◌, All, Ok, Err, refl, ap, sym, ◌∙◌, subst, arith, ne_eqb, append-nil, true≢false}
+use Rattle.std.specs.Prelude.{Result, ◌+◌, is_some}
 use Rattle.std.proofs.lemmas.List.Elements.{All-nil, All-cons, All-head, All-tail, All-append, All-weaker}
-use mathlib.Core.Option.{some-ne-none}
 use Rattle.row_types.specs.declared.allocation.Memory.{Memory as NoMemory}
 use Rattle.turn_facts.specs.Counts.{total}
 use Rattle.turn_facts.specs.Notes.{IsOwn}
@@ -25,7 +24,7 @@ pub record IsMade (by line : ℕ) (note : VaultNote) : Type 0 where
 
 module _ (by line : ℕ) where
   made_one : (call : KeeperCall) (object : ℕ) (outcome : Outcome) → IsMade by line (note_of by line call object outcome)
-  made_one call object outcome = record { own = record { by = refl; at = λ t q. absurd (some-ne-none t (sym q)) }; of_line = refl }
+  made_one call object outcome = record { own = record { by = refl; at = λ t q. absurd (true≢false (sym (ap is_some q))) }; of_line = refl }
 
   made_alike : (call : KeeperCall) (outcome : Outcome) (objects : List ℕ) → All (IsMade by line) (alike_notes by line call outcome objects)
   made_alike call outcome [] = All-nil (IsMade by line)

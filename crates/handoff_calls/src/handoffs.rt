@@ -1,8 +1,9 @@
 //! Handoffs.
 
-ghost use Rattle.std.specs.Prelude.{◌≡◌, ◌+◌, ◌^◌, ◌<◌, List, map, IfOk};
+ghost use Rattle.std.specs.Prelude.{◌≡◌, ◌≢◌, ◌+◌, ◌^◌, ◌<◌, false, List, map, IfOk};
 ghost use Rattle.turn_facts.specs.Counts.{total};
 ghost use Rattle.journal_model.specs.declared.notes.Note.{Note};
+ghost use Rattle.journal_model.specs.declared.refusals.MoveError.TheVariants as error;
 ghost use Rattle.seat_walks.specs.Walks.{Turned, Took};
 ghost use Rattle.call_model.specs.Calls.{channel_at};
 ghost use Rattle.call_model.specs.Walks.{Did};
@@ -122,8 +123,7 @@ fn hand<K: Keeper, R: Wait, M: Moments, G: Gate>(
 {
     let moving = match begin(alloc, call, front, &mut seats.front, channel, segment) {
         Ok(moving) => moving,
-        Err(MoveError::Memory) => return Err(Memory),
-        Err(_) => return Ok(false),
+        Err(why) => return not_begun(why),
     };
     match store(call.rt, alloc, vaults, &mut seats.vault, call.line, moving.part())? {
         Stored::Kept(part) => {
@@ -131,5 +131,18 @@ fn hand<K: Keeper, R: Wait, M: Moments, G: Gate>(
             Ok(false)
         }
         Stored::Failed => Ok(true),
+    }
+}
+
+// What a hand answers whose move was refused: nothing is left, since the segment waits no longer.
+fn not_begun(why: MoveError) -> Result<bool, Memory>
+    ensures { IfOk result (λ left. (left ≡ false) × (why ≢ error.Memory)) }
+{
+    match why {
+        MoveError::Memory => Err(Memory),
+        MoveError::Gone { .. } => Ok(false),
+        MoveError::Already { .. } => Ok(false),
+        MoveError::NotThere { .. } => Ok(false),
+        MoveError::LastPlace { .. } => Ok(false),
     }
 }
