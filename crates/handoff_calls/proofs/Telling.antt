@@ -35,6 +35,11 @@ use Rattle.handoff_calls.specs.Facts.{HasFault, IsHandedOver, IsStoredFirst}
 use Rattle.handoff_calls.proofs.Counting.{notes-append}
 use Rattle.handoff_calls.proofs.Homes.{load_takes}
 
+-- the segment of a load
+number_in : Kind → ℕ
+number_in (Load segment node) = segment
+number_in _ = 0
+
 -- ---- lists
 
 here : {X : Type 0} (x : X) (xs : List X) → Contains (x ∷ xs) x
@@ -43,15 +48,15 @@ here x xs = (0, (let lt : 0 < length xs + 1 = omega arith in lt), refl)
 nothing : {X : Type 0} (x : X) → Contains [] x → ⊥
 nothing x c = let lt : c.0 < 0 = c.1 in absurd (omega arith)
 
+only : {X : Type 0} (a x : X) → Contains (a ∷ []) x → x ≡ a
+only a x (zero, lt, e) = sym e
+only a x (suc k, lt, e) = let no : k + 1 < 1 = lt in absurd (omega arith)
+
 head_or : {X : Type 0} (a : X) (xs : List X) (x : X) → Contains (a ∷ xs) x → (x ≡ a) ⊎ Contains xs x
 head_or a xs x c = elim (Contains-append_cases (a ∷ []) xs x c) as (λ _. (x ≡ a) ⊎ Contains xs x) [
-  | inl one ↦ inl (only one)
+  | inl one ↦ inl (only a x one)
   | inr rest ↦ inr rest
 ]
-where
-  only : Contains (a ∷ []) x → x ≡ a
-  only (zero, lt, e) = sym e
-  only (suc k, lt, e) = let no : k + 1 < 1 = lt in absurd (omega arith)
 
 in_front : {X : Type 0} (a : X) (xs : List X) (x : X) → Contains xs x → Contains (a ∷ xs) x
 in_front a xs x c = Contains-append_right (a ∷ []) xs x c
@@ -187,10 +192,6 @@ module _ (channel : Channel) (nodes by keeps line : ℕ) where
 
   same_segment : (by' segment node segment' node' : ℕ) → note_of by' line (Load segment node) ≡ note_of by line (Load segment' node') → segment ≡ segment'
   same_segment by' segment node segment' node' e = ap (λ (n : Note). number_in n.kind) e
-  where
-    number_in : Kind → ℕ
-    number_in (Load s n) = s
-    number_in _ = 0
 
   loaded_stored : (by' segment node segment' : ℕ) (loaded : Turned Note) (part : SegmentPart) (store : Turned VaultNote) → part.sealed.number ≡ segment' → store.notes ≡ kept_notes keeps line (names_of part) → LoadsOr channel nodes by line segment' loaded.before loaded.notes
       → Contains loaded.notes (note_of by' line (Load segment node)) → WasStored (store ∷ []) segment
@@ -211,11 +212,11 @@ module _ (channel : Channel) (nodes by keeps line : ℕ) where
     | inr none ↦ absurd (nothing t none)
   ]
   one_stored segment' (Moved begun moving store loaded) t by' segment node is c l =
-      let com : IsCommitted channel nodes by keeps line segment' loaded = is.1.1 in
+      let placed : IsCommitted channel nodes by keeps line segment' loaded = is.1.1 in
       elim (head_or begun (loaded ∷ []) t c) as (λ _. WasStored (store ∷ []) segment) [
         | inl e ↦ absurd (quiet_none t.notes (note_of by' line (Load segment node)) (ap (λ (x : Turned Note). x.notes) e ∙ is.0.turn.none) l)
         | inr rest ↦ elim (head_or loaded [] t rest) as (λ _. WasStored (store ∷ []) segment) [
-          | inl e ↦ loaded_stored by' segment node segment' loaded moving.part store is.0.begins.segment_is is.1.0.kept com.loads (subst (λ (x : Turned Note). Contains x.notes (note_of by' line (Load segment node))) e l)
+          | inl e ↦ loaded_stored by' segment node segment' loaded moving.part store is.0.begins.segment_is is.1.0.kept placed.loads (subst (λ (x : Turned Note). Contains x.notes (note_of by' line (Load segment node))) e l)
           | inr none ↦ absurd (nothing t none)
         ]
       ]

@@ -72,9 +72,11 @@ returns-in_ok-load-in-Kept-clause-did g c =
         refl,
         refl,
         refl,
-        record { turn = b.2; begins = b.3 },
-        record { slot = s.2; undrawn = s.3; kept = kept },
-        committed channel nodes by c.begin.new.seat.number keeps line c.args.segment moving.part.sealed.number l.0 c.begin.ensures.spends.number b.3.segment_is l.2 l.3 l.4,
+        (
+          record { turn = b.2; begins = b.3 },
+          record { slot = s.2; undrawn = s.3; kept = kept },
+          committed channel nodes by c.begin.new.seat.number keeps line c.args.segment moving.part.sealed.number l.0 c.begin.ensures.spends.number b.3.segment_is l.2 l.3 l.4,
+        ),
       ),
     )
 
@@ -92,5 +94,5 @@ returns-in-Failed-clause-did g c =
       b.1,
       s.1,
       stores_of_line keeps line (names_of c.part.result.now) (Ok c.in_ok-part.field-0) s.0.notes s.4,
-      (Left b.0 moving s.0, refl, refl, refl, record { turn = b.2; begins = b.3 }, record { slot = s.2; undrawn = s.3; left = left }),
+      (Left b.0 moving s.0, refl, refl, refl, (record { turn = b.2; begins = b.3 }, record { slot = s.2; undrawn = s.3; left = left })),
     )

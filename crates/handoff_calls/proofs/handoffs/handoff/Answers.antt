@@ -35,8 +35,8 @@ returns-in_err-left-clause-did g c =
       if_err c.from_residual-in_err-left.result _ c.from_residual-in_err-left.ensures.0,
     )
 
-pub returns-in_ok-left-clause-did : goal.returns-in_ok-left-clause-did
-returns-in_ok-left-clause-did g c =
+pub returns-clause-did : goal.returns-clause-did
+returns-clause-did g c =
     let channel : Channel = channel_at c.args.front.now.collection c.args.channel in
     let nodes : ℕ = c.args.front.now.collection.nodes in
     let by : ℕ = c.args.seats.now.front.number in
@@ -51,7 +51,7 @@ returns-in_ok-left-clause-did g c =
       front = ap (λ (l : List (Turned Note)). w.0 ∷ l) h.5.1;
       vault = h.5.2;
       looked = w.2;
-      each = subst (λ (l : List ℕ). AreHands channel nodes by keeps line l h.5.0) (c.as_slice.ensures ∙ w.3) named;
+      each = subst (λ (l : List ℕ). AreHands channel nodes by keeps line l h.5.0) (c.as_slice.ensures.value ∙ w.3) named;
       left_is = h.5.3;
     } in
     let faults : c.in_ok-left.left ≡ total faults_in (notes_of h.1) = left_is_faults channel nodes by keeps line c.in_ok-left.left (w.0 ∷ h.0) h.1 is in (
