@@ -1,5 +1,5 @@
 -- What a handoff owes in its own words.
-use Rattle.std.proofs.Common.{◌≡◌, ℕ, ◌==◌, ◌⊎◌, inl, inr, Bool, true, false, cond, List, [], ◌∷◌, ◌++◌, map, length, Option, Some, None, refl, ap, sym, ◌∙◌, subst, arith, ne_eqb, eq-eqb}
+use Rattle.std.proofs.Common.{◌≡◌, ℕ, zero, suc, ◌==◌, ◌⊎◌, inl, inr, Bool, true, false, cond, List, [], ◌∷◌, ◌++◌, map, length, Option, Some, None, refl, ap, sym, ◌∙◌, subst, arith, ne_eqb, eq-eqb}
 use Rattle.std.specs.Prelude.{◌<◌, ◌+◌}
 use Rattle.std.specs.List.{Contains}
 use Rattle.std.proofs.lemmas.List.Elements.{Contains-append_left, Contains-append_right, Contains-append_cases}
@@ -36,21 +36,21 @@ use Rattle.handoff_calls.proofs.Counting.{notes-append}
 use Rattle.handoff_calls.proofs.Homes.{load_takes}
 
 -- the segment of a load
-number_in : Kind → ℕ
+abbrev number_in : Kind → ℕ
 number_in (Load segment node) = segment
 number_in _ = 0
 
 -- ---- lists
 
 here : {X : Type 0} (x : X) (xs : List X) → Contains (x ∷ xs) x
-here x xs = (0, (let lt : 0 < length xs + 1 = omega arith in lt), refl)
+here x xs = (0, omega arith, refl)
 
 nothing : {X : Type 0} (x : X) → Contains [] x → ⊥
 nothing x c = let lt : c.0 < 0 = c.1 in absurd (omega arith)
 
 only : {X : Type 0} (a x : X) → Contains (a ∷ []) x → x ≡ a
 only a x (zero, lt, e) = sym e
-only a x (suc k, lt, e) = let no : k + 1 < 1 = lt in absurd (omega arith)
+only a x (suc k, lt, e) = let no : suc k < 1 = lt in absurd (omega arith)
 
 head_or : {X : Type 0} (a : X) (xs : List X) (x : X) → Contains (a ∷ xs) x → (x ≡ a) ⊎ Contains xs x
 head_or a xs x c = elim (Contains-append_cases (a ∷ []) xs x c) as (λ _. (x ≡ a) ⊎ Contains xs x) [
@@ -154,7 +154,7 @@ module _ (channel : Channel) (nodes by keeps line : ℕ) where
       let v : IsStoredInVain channel nodes by keeps line moving store = is.1 in
       record { over = inr (fault_within segment store.notes (store.notes ++ []) (λ x c. Contains-append_left store.notes [] x c) (vain_fault keeps line segment moving.part store.notes b.begins.segment_is v.left)) }
   one_over segment (Moved begun moving store loaded) is =
-      let c : IsCommitted channel nodes by keeps line segment loaded = is.1.1 in loaded_over segment begun loaded (store ∷ []) c.loads
+      let c : IsCommitted channel nodes by keeps line segment loaded = is.2 in loaded_over segment begun loaded (store ∷ []) c.loads
 
   all_over : (segments : List ℕ) (hands : List Hand) (segment : ℕ) → AreHands channel nodes by keeps line segments hands → Contains segments segment → Over (all_front hands) (all_vault hands) segment
   all_over [] hands segment are c = absurd (nothing segment c)
@@ -212,11 +212,11 @@ module _ (channel : Channel) (nodes by keeps line : ℕ) where
     | inr none ↦ absurd (nothing t none)
   ]
   one_stored segment' (Moved begun moving store loaded) t by' segment node is c l =
-      let placed : IsCommitted channel nodes by keeps line segment' loaded = is.1.1 in
+      let placed : IsCommitted channel nodes by keeps line segment' loaded = is.2 in
       elim (head_or begun (loaded ∷ []) t c) as (λ _. WasStored (store ∷ []) segment) [
         | inl e ↦ absurd (quiet_none t.notes (note_of by' line (Load segment node)) (ap (λ (x : Turned Note). x.notes) e ∙ is.0.turn.none) l)
         | inr rest ↦ elim (head_or loaded [] t rest) as (λ _. WasStored (store ∷ []) segment) [
-          | inl e ↦ loaded_stored by' segment node segment' loaded moving.part store is.0.begins.segment_is is.1.0.kept placed.loads (subst (λ (x : Turned Note). Contains x.notes (note_of by' line (Load segment node))) e l)
+          | inl e ↦ loaded_stored by' segment node segment' loaded moving.part store is.0.begins.segment_is is.1.kept placed.loads (subst (λ (x : Turned Note). Contains x.notes (note_of by' line (Load segment node))) e l)
           | inr none ↦ absurd (nothing t none)
         ]
       ]
