@@ -1,5 +1,5 @@
 -- A move in its turns: where it was begun, and where its load is noted.
-use Rattle.std.proofs.Common.{◌≡◌, ℕ, List, [], ◌∷◌, ◌++◌, All, ◌⊎◌, inl, inr, Some, None, Ok, Err, refl, sym, ap, subst, true≢false}
+use Rattle.std.proofs.Common.{◌≡◌, ℕ, List, [], ◌∷◌, All, ◌⊎◌, inl, inr, Some, Ok, Err, sym, ap, subst, true≢false}
 use Rattle.std.specs.Prelude.{Result, IfOk, IfErr, is_some}
 use Rattle.std.proofs.lemmas.List.Elements.{All-nil, All-cons, All-same}
 use Rattle.row_types.specs.declared.allocation.Memory.{Memory as NoMemory}

@@ -1,5 +1,5 @@
 -- Whose the notes of a store are.
-use Rattle.std.proofs.Common.{◌≡◌, ℕ, ◌==◌, ◌⊎◌, inl, inr, Bool, true, false, cond, List, [], ◌∷◌, ◌++◌, All, Ok, Err, refl, ap, sym, ◌∙◌, subst, arith, ne_eqb, append-nil, true≢false}
+use Rattle.std.proofs.Common.{◌≡◌, ℕ, ◌==◌, inl, inr, Bool, true, false, cond, List, [], ◌∷◌, ◌++◌, All, Ok, Err, refl, ap, sym, ◌∙◌, subst, arith, ne_eqb, append-nil, true≢false}
 use Rattle.std.specs.Prelude.{Result, ◌+◌, is_some}
 use Rattle.std.proofs.lemmas.List.Elements.{All-nil, All-cons, All-head, All-tail, All-append, All-weaker}
 use Rattle.row_types.specs.declared.allocation.Memory.{Memory as NoMemory}

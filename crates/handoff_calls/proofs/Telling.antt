@@ -1,6 +1,6 @@
 -- What a handoff owes in its own words.
-use Rattle.std.proofs.Common.{◌≡◌, ℕ, zero, suc, ◌==◌, ◌⊎◌, inl, inr, Bool, true, false, cond, List, [], ◌∷◌, ◌++◌, map, length, Option, Some, None, refl, ap, sym, ◌∙◌, subst, arith, ne_eqb, eq-eqb}
-use Rattle.std.specs.Prelude.{◌<◌, ◌+◌}
+use Rattle.std.proofs.Common.{◌≡◌, ℕ, zero, suc, ◌⊎◌, inl, inr, Bool, cond, List, [], ◌∷◌, ◌++◌, map, Option, Some, None, refl, ap, sym, ◌∙◌, subst, arith, ne_eqb, eq-eqb}
+use Rattle.std.specs.Prelude.{◌<◌}
 use Rattle.std.specs.List.{Contains}
 use Rattle.std.proofs.lemmas.List.Elements.{Contains-append_left, Contains-append_right, Contains-append_cases}
 use Rattle.turn_facts.specs.Counts.{count, Among}
@@ -18,7 +18,6 @@ use Rattle.part_objects.specs.declared.names.ObjectKind.{ObjectKind}
 use Rattle.part_objects.specs.declared.names.ObjectKind.TheVariants as kind
 use Rattle.part_objects.specs.declared.objects.Object.{Object}
 use Rattle.shard_core.specs.Counting.{waiting_numbers}
-use Rattle.shard_core.specs.Moves.{BegunMove}
 use Rattle.seat_walks.specs.Walks.{Turned}
 use Rattle.vault.specs.declared.notes.KeeperCall.{KeeperCall}
 use Rattle.vault.specs.declared.notes.KeeperCall.TheVariants.{Put, Get}
@@ -29,8 +28,8 @@ use Rattle.vault.specs.Names.{names_of}
 use Rattle.vault.specs.Notes as notes
 use Rattle.vault.specs.Notes.{notes_up_to, alike_notes, faults_as}
 use Rattle.vault.specs.Stores.{kept_notes, IsLeft}
-use Rattle.handoff_calls.specs.Turns.{WaitsNot, IsLoaded, IsNotLoaded, LoadsOr, IsQuietTurn}
-use Rattle.handoff_calls.specs.Handoffs.{Hand, Gone, Left, Moved, front_in, vault_in, all_front, all_vault, notes_of, IsBegun, IsStored, IsStoredInVain, IsCommitted, IsHand, AreHands, IsHandoff}
+use Rattle.handoff_calls.specs.Turns.{WaitsNot, LoadsOr}
+use Rattle.handoff_calls.specs.Handoffs.{Hand, Gone, Left, Moved, front_in, vault_in, all_front, all_vault, notes_of, IsBegun, IsStoredInVain, IsCommitted, IsHand, AreHands, IsHandoff}
 use Rattle.handoff_calls.specs.Facts.{HasFault, IsHandedOver, IsStoredFirst}
 use Rattle.handoff_calls.proofs.Counting.{notes-append}
 use Rattle.handoff_calls.proofs.Homes.{load_takes}
@@ -111,20 +110,20 @@ module _ (keeps line : ℕ) where
       let object : left.object ≡ name_of segment name.0 = name.1 ∙ ap (λ (n : ℕ). name_of n name.0) number in
       elim left.noted as (λ _. HasFault segment l) [
         | inl e ↦ record {
-            note = notes.note_of keeps line Put left.object Failed;
-            there = subst (λ (m : List VaultNote). Contains m (notes.note_of keeps line Put left.object Failed)) (sym e) (last_noted keeps line Put left.object Failed (names_of part) left.among);
-            kind = name.0;
-            object = object;
-            bad = refl;
-          }
+          note = notes.note_of keeps line Put left.object Failed;
+          there = subst (λ (m : List VaultNote). Contains m (notes.note_of keeps line Put left.object Failed)) (sym e) (last_noted keeps line Put left.object Failed (names_of part) left.among);
+          kind = name.0;
+          object = object;
+          bad = refl;
+        }
         | inr b ↦ record {
-            note = notes.note_of keeps line Get left.object b.outcome;
-            there = subst (λ (m : List VaultNote). Contains m (notes.note_of keeps line Get left.object b.outcome)) (sym b.noted)
-            (Contains-append_right (alike_notes keeps line Put Done (names_of part)) (notes_up_to keeps line Get left.object b.outcome (names_of part)) (notes.note_of keeps line Get left.object b.outcome) (last_noted keeps line Get left.object b.outcome (names_of part) left.among));
-            kind = name.0;
-            object = object;
-            bad = b.bad;
-          }
+          note = notes.note_of keeps line Get left.object b.outcome;
+          there = subst (λ (m : List VaultNote). Contains m (notes.note_of keeps line Get left.object b.outcome)) (sym b.noted)
+              (Contains-append_right (alike_notes keeps line Put Done (names_of part)) (notes_up_to keeps line Get left.object b.outcome (names_of part)) (notes.note_of keeps line Get left.object b.outcome) (last_noted keeps line Get left.object b.outcome (names_of part) left.among));
+          kind = name.0;
+          object = object;
+          bad = b.bad;
+        }
       ]
 
 fault_within : (segment : ℕ) (l m : List VaultNote) → ((x : VaultNote) → Contains l x → Contains m x) → HasFault segment l → HasFault segment m

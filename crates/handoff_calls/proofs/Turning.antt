@@ -1,5 +1,5 @@
 -- Turns in which no number is drawn.
-use Rattle.std.proofs.Common.{◌≡◌, ℕ, ◌+◌, ◌-◌, ◌<◌, ◌≤◌, List, [], ◌∷◌, ◌++◌, length, set, All, Option, Some, refl, ap, sym, ◌∙◌, subst, arith, append-nil, length-append}
+use Rattle.std.proofs.Common.{◌≡◌, ℕ, ◌+◌, ◌-◌, ◌<◌, ◌≤◌, List, [], ◌∷◌, ◌++◌, length, set, All, Option, refl, ap, sym, ◌∙◌, subst, arith, append-nil, length-append}
 use Rattle.std.proofs.lemmas.List.{length-set, get_or-set_same}
 use Rattle.turn_lock.specs.declared.tickets.Ticket.{Ticket}
 use Rattle.turn_facts.specs.Counts.{count, Among}
@@ -8,7 +8,7 @@ use Rattle.turn_facts.specs.Prefixes.{StartsWith}
 use Rattle.turn_facts.proofs.Counts.{count-append}
 use Rattle.turn_table.specs.Knowledge.{at_slot}
 use Rattle.turn_table.specs.Seats.{SeatView, fresh}
-use Rattle.seat_walks.specs.Walks.{Turned, Took, Walks, Puts}
+use Rattle.seat_walks.specs.Walks.{Turned, Took, Walks}
 use Rattle.seat_walks.proofs.Turning.{took, adds_turn, puts_none, puts_notes}
 use Rattle.journal_model.specs.declared.notes.Note.{Note}
 use Rattle.shard_core.specs.Shards.{ChannelBase}

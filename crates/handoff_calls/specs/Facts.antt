@@ -1,8 +1,7 @@
 -- What a handoff owes in its own words, over the notes of its call.
-use Rattle.std.specs.Prelude.{◌≡◌, ◌≢◌, ◌⊎◌, ℕ, ◌==◌, ◌≤◌, cond, List, [], ◌∷◌, ◌++◌, length}
+use Rattle.std.specs.Prelude.{◌≡◌, ◌≢◌, ◌⊎◌, ℕ, ◌==◌, cond, List, ◌++◌}
 use Rattle.std.specs.List.{Contains}
-use Rattle.turn_facts.specs.Counts.{Among, total}
-use Rattle.turn_facts.specs.Prefixes.{StartsWith}
+use Rattle.turn_facts.specs.Counts.{total}
 use Rattle.journal_model.specs.declared.notes.Kind.TheVariants.{Load}
 use Rattle.journal_model.specs.declared.notes.Note.{Note}
 use Rattle.journal_model.specs.Notes.{note_of}
@@ -10,15 +9,13 @@ use Rattle.journal_model.specs.Layouts.{Channel}
 use Rattle.part_objects.specs.Spellings.{name_of}
 use Rattle.part_objects.specs.declared.names.ObjectKind.{ObjectKind}
 use Rattle.seg_sealed.specs.Parts.{SegmentPart}
-use Rattle.shard_core.specs.Counting.{waiting_numbers}
-use Rattle.shard_core.specs.Moves.{BegunMove}
 use Rattle.seat_walks.specs.Walks.{Turned}
 use Rattle.vault.specs.declared.notes.VaultNote.{VaultNote}
 use Rattle.vault.specs.Names.{names_of}
-use Rattle.vault.specs.Notes.{faults_as, faults_in}
+use Rattle.vault.specs.Notes.{faults_as}
 use Rattle.vault.specs.Stores.{kept_notes}
 use Rattle.handoff_calls.specs.Turns.{WaitsNot}
-use Rattle.handoff_calls.specs.Handoffs.{Hand, notes_of, IsHandoff}
+use Rattle.handoff_calls.specs.Handoffs.{notes_of}
 
 -- the failures, losses and damages of a line
 abbrev pub faults_at : ℕ → VaultNote → ℕ

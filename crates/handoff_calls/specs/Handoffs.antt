@@ -3,7 +3,6 @@
 use Rattle.std.specs.Prelude.{◌≡◌, ℕ, Bool, true, false, List, [], ◌∷◌, ◌++◌}
 use Rattle.journal_model.specs.declared.notes.Note.{Note}
 use Rattle.journal_model.specs.Layouts.{Channel}
-use Rattle.seg_sealed.specs.Parts.{SegmentPart}
 use Rattle.shard_core.specs.Counting.{waiting_numbers}
 use Rattle.shard_core.specs.Moves.{BegunMove}
 use Rattle.turn_facts.specs.Counts.{total}

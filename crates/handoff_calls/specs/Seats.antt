@@ -1,5 +1,5 @@
 -- A seat of the channels and one of the vault, and what calls leave of them.
-use Rattle.std.specs.Prelude.{◌≡◌, ℕ, ◌≤◌, List, [], length}
+use Rattle.std.specs.Prelude.{◌≡◌, List, [], length}
 use Rattle.turn_table.specs.Seats.{Table, SeatView}
 use Rattle.seat_walks.specs.Walks.{Step, Walks}
 use Rattle.vault.specs.declared.notes.VaultNote.{VaultNote}

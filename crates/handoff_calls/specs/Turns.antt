@@ -1,5 +1,5 @@
 -- What the parts of a handoff do, each inside of one turn of its channel or of the vault.
-use Rattle.std.specs.Prelude.{◌≡◌, ◌⊎◌, ℕ, false, List, [], ◌∷◌, length, map, Option, Some, None, Result, Ok, Err}
+use Rattle.std.specs.Prelude.{◌≡◌, ◌⊎◌, ℕ, false, List, [], ◌∷◌, Some, None, Result, Ok, Err}
 use Rattle.row_types.specs.declared.allocation.Memory.{Memory as NoMemory}
 use Rattle.journal_model.specs.declared.notes.Home.TheVariants.{Leader}
 use Rattle.journal_model.specs.declared.notes.Kind.TheVariants.{Load}
@@ -10,14 +10,9 @@ use Rattle.journal_model.specs.Notes.{note_of}
 use Rattle.journal_model.specs.Layouts.{Channel, layout_of}
 use Rattle.journal_model.specs.Lawful.{is_at}
 use Rattle.journal_model.specs.Refusals.{move_refusal, load_refusal}
-use Rattle.seg_sealed.specs.Parts.{SegmentPart}
-use Rattle.shard_core.specs.Counting.{waiting_numbers, IsLeastNode}
+use Rattle.shard_core.specs.Counting.{IsLeastNode}
 use Rattle.shard_core.specs.Moves.{BegunMove, IsMoveOf}
 use Rattle.seat_walks.specs.Walks.{Turned}
-use Rattle.vault.specs.declared.notes.VaultNote.{VaultNote}
-use Rattle.vault.specs.declared.storing.Stored.{Stored}
-use Rattle.vault.specs.Names.{names_of}
-use Rattle.vault.specs.Stores.{Stores}
 
 -- a turn of the channel k in which nothing was noted and nothing drawn
 pub record IsQuietTurn (k : ℕ) (t : Turned Note) : Type 0 where

@@ -52,12 +52,20 @@ pub fn handoff<K: Keeper, R: Wait, M: Moments, G: Gate>(
     ensures did { (ts : List (Turned Note)) × (us : List (Turned VaultNote))
         × Did seats.old.front (map Took ts) seats.new.front × DidVault seats.old.vault (map Took us) seats.new.vault × AreOfLine call.now.line (notes_of us)
         × IfOk result (λ left. (left.segments ≡ total faults_in (notes_of us)) × (left.failed ≡ total faults_in (notes_of us))
-            × IsHandoff (channel_at front.now.collection channel) front.now.collection.nodes seats.old.front.number seats.old.vault.number call.now.line left.segments ts us) }
+        × IsHandoff (channel_at front.now.collection channel) front.now.collection.nodes seats.old.front.number seats.old.vault.number call.now.line left.segments ts us) }
     ensures front { Spends 0 seats.old.front seats.new.front }
     ensures vault { Stays seats.old.vault seats.new.vault }
 {
     let segments = waiting(alloc, call, front, &mut seats.front, channel)?;
-    let left = hand_all(alloc, call, front, vaults, seats, channel, segments.as_slice())?;
+    let left = hand_all(
+        alloc,
+        call,
+        front,
+        vaults,
+        seats,
+        channel,
+        segments.as_slice(),
+    )?;
     Ok(Left {
         segments: left,
         failed: left,
@@ -81,7 +89,7 @@ fn hand_all<K: Keeper, R: Wait, M: Moments, G: Gate>(
     ensures did { (ts : List (Turned Note)) × (us : List (Turned VaultNote))
         × Did seats.old.front (map Took ts) seats.new.front × DidVault seats.old.vault (map Took us) seats.new.vault × AreOfLine call.now.line (notes_of us)
         × IfOk result (λ left. (hands : List Hand) × (ts ≡ all_front hands) × (us ≡ all_vault hands) × (left ≡ total left_in hands)
-            × AreHands (channel_at front.now.collection channel) front.now.collection.nodes seats.old.front.number seats.old.vault.number call.now.line segments.now hands) }
+        × AreHands (channel_at front.now.collection channel) front.now.collection.nodes seats.old.front.number seats.old.vault.number call.now.line segments.now hands) }
     ensures front { Spends 0 seats.old.front seats.new.front }
     ensures vault { Stays seats.old.vault seats.new.vault }
 {
@@ -117,7 +125,7 @@ fn hand<K: Keeper, R: Wait, M: Moments, G: Gate>(
     ensures did { (ts : List (Turned Note)) × (us : List (Turned VaultNote))
         × Did seats.old.front (map Took ts) seats.new.front × DidVault seats.old.vault (map Took us) seats.new.vault × AreOfLine call.now.line (notes_of us)
         × IfOk result (λ left. (hand : Hand) × (ts ≡ front_in hand) × (us ≡ vault_in hand) × (as_left left ≡ left_in hand)
-            × IsHand (channel_at front.now.collection channel) front.now.collection.nodes seats.old.front.number seats.old.vault.number call.now.line segment hand) }
+        × IsHand (channel_at front.now.collection channel) front.now.collection.nodes seats.old.front.number seats.old.vault.number call.now.line segment hand) }
     ensures front { Spends 0 seats.old.front seats.new.front }
     ensures vault { Stays seats.old.vault seats.new.vault }
 {
@@ -125,7 +133,14 @@ fn hand<K: Keeper, R: Wait, M: Moments, G: Gate>(
         Ok(moving) => moving,
         Err(why) => return not_begun(why),
     };
-    match store(call.rt, alloc, vaults, &mut seats.vault, call.line, moving.part())? {
+    match store(
+        call.rt,
+        alloc,
+        vaults,
+        &mut seats.vault,
+        call.line,
+        moving.part(),
+    )? {
         Stored::Kept(part) => {
             load(alloc, call, front, &mut seats.front, channel, moving, part)?;
             Ok(false)

@@ -1,4 +1,4 @@
-use Rattle.std.proofs.Common.{◌≡◌, ℕ, List, [], ◌∷◌, Ok, refl, ap, sym, subst, ◌∙◌}
+use Rattle.std.proofs.Common.{◌≡◌, ℕ, [], ◌∷◌, Ok, refl, ap, subst, ◌∙◌}
 use Rattle.journal_model.specs.Layouts.{Channel}
 use Rattle.seg_sealed.specs.Parts.{SegmentPart}
 use Rattle.shard_core.specs.Moves.{BegunMove}
@@ -9,7 +9,6 @@ use Rattle.vault.specs.Names.{names_of}
 use Rattle.vault.specs.Stores.{Stores, IsLeft, kept_notes}
 use Rattle.handoff_calls.specs.Handoffs.{Left, Moved}
 use Rattle.handoff_calls.proofs.Own.{of_line_none, stores_of_line}
-use Rattle.handoff_calls.proofs.Turning.{stays_none}
 use Rattle.handoff_calls.proofs.Handing.{if_err, did_on, vault_none, gone_hand, committed}
 use Rattle.handoff_calls.proofs.handoffs.hand.Goals as goal
 

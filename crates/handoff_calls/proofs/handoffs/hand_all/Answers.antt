@@ -1,10 +1,9 @@
-use Rattle.std.proofs.Common.{◌≡◌, ℕ, ◌+◌, ◌<◌, ◌≤◌, List, [], ◌∷◌, ◌++◌, length, take, refl, ap, sym, subst, ◌∙◌, arith}
+use Rattle.std.proofs.Common.{◌≡◌, ℕ, ◌+◌, ◌≤◌, List, ◌++◌, take, refl, subst, arith}
 use Rattle.std.proofs.lemmas.List.{take_all}
-use Rattle.journal_model.specs.Layouts.{Channel}
 use Rattle.call_model.specs.Calls.{channel_at}
 use Rattle.handoff_calls.specs.Handoffs.{as_left, all_front, all_vault, AreHands}
 use Rattle.handoff_calls.proofs.Turning.{spends_none, spends_on, stays_none, stays_on}
-use Rattle.handoff_calls.proofs.Handing.{if_err, IsDone, done_on, left_most, AreHanded, handed_none, handed_next}
+use Rattle.handoff_calls.proofs.Handing.{if_err, IsDone, done_on, left_most, handed_none, handed_next}
 use Rattle.handoff_calls.proofs.handoffs.hand_all.Goals as goal
 
 pub segments-init : goal.segments-init

@@ -1,4 +1,4 @@
-use Rattle.std.proofs.Common.{◌≡◌, ℕ, List, [], ◌∷◌, refl, ap, sym, subst, ◌∙◌}
+use Rattle.std.proofs.Common.{◌≡◌, ℕ, List, [], ◌∷◌, ap, subst, ◌∙◌}
 use Rattle.turn_facts.specs.Counts.{total}
 use Rattle.journal_model.specs.declared.notes.Note.{Note}
 use Rattle.journal_model.specs.Layouts.{Channel}
@@ -8,7 +8,6 @@ use Rattle.vault.specs.Notes.{faults_in}
 use Rattle.handoff_calls.specs.Handoffs.{AreHands, IsHandoff, notes_of}
 use Rattle.handoff_calls.proofs.Counting.{left_is_faults}
 use Rattle.handoff_calls.proofs.Own.{of_line_none}
-use Rattle.handoff_calls.proofs.Turning.{stays_none}
 use Rattle.handoff_calls.proofs.Handing.{if_err, did_on, vault_none}
 use Rattle.handoff_calls.proofs.handoffs.handoff.Goals as goal
 

@@ -35,7 +35,7 @@ returns-clause-did g c =
     let found : BeginsOr c.enter-turn.result.value.channel c.args.segment before c.begin_move-moving.result = subst (λ (s : ChannelShard). BeginsOr s.channel c.args.segment s.state.notes c.begin_move-moving.result) c.value_mut.ensures.value began in (
       record { slot = c.args.channel; before = before; notes = []; drawn = [] },
       quiet_turn by_of time_of c.args.seat.now c.enter-turn.new.seat c.leave.new.seat c.args.channel c.enter-turn.result.slot before c.begin_move-moving.new.self.state.notes (inside c.args.channel c.enter-turn.result.number ∷ [])
-      c.enter-turn.ensures.turn.1 slot c.enter-turn.ensures.more c.enter-turn.ensures.mine c.requires.seat.rest c.enter-turn.ensures.seat same c.leave.ensures,
+          c.enter-turn.ensures.turn.1 slot c.enter-turn.ensures.more c.enter-turn.ensures.mine c.requires.seat.rest c.enter-turn.ensures.seat same c.leave.ensures,
       record { slot = refl; none = refl; undrawn = refl },
       subst (λ (k : Channel). BeginsOr k c.args.segment before c.begin_move-moving.result) channel found,
     )

@@ -55,7 +55,7 @@ returns-clause-did g c =
     subst (λ (b : ChannelBase). LoadsOrNone b.channel b.collection.nodes c.number-by.result line segment c.load_under-loaded.result before st.0) base found in (
       record { slot = c.args.channel; before = before; notes = st.0; drawn = [] },
       noted_turn by_of time_of c.args.seat.now c.enter-turn.new.seat c.leave.new.seat c.args.channel c.enter-turn.result.slot before c.load_under-loaded.new.shard.state.notes st.0 (inside c.args.channel c.enter-turn.result.number ∷ [])
-      c.enter-turn.ensures.turn.1 slot c.enter-turn.ensures.more c.enter-turn.ensures.mine c.requires.seat.rest c.enter-turn.ensures.seat is own c.leave.ensures,
+          c.enter-turn.ensures.turn.1 slot c.enter-turn.ensures.more c.enter-turn.ensures.mine c.requires.seat.rest c.enter-turn.ensures.seat is own c.leave.ensures,
       refl,
       refl,
       subst (λ (n : ℕ). LoadsOrNone (channel_at c.args.front.now.collection c.args.channel) c.args.front.now.collection.nodes n line segment c.load_under-loaded.result before st.0) c.number-by.ensures based,

@@ -1,5 +1,4 @@
-use Rattle.std.proofs.Common.{◌≡◌, [], ◌++◌, inr, refl, ap, sym, ◌∙◌, append-nil}
-use Rattle.journal_model.specs.declared.refusals.MoveError.{MoveError}
+use Rattle.std.proofs.Common.{◌≡◌, [], inr, refl, ap, sym, ◌∙◌, append-nil}
 use Rattle.journal_model.specs.declared.refusals.MoveError.TheVariants as error
 use Rattle.shard_core.specs.Shards.{ChannelShard}
 use Rattle.handoff_calls.proofs.Homes.{refused_not}

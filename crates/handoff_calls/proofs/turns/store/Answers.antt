@@ -34,7 +34,7 @@ returns-clause-did g c =
     let slot : 0 < length c.enter-turn.new.seat.seen = subst (λ (n : ℕ). n < length c.enter-turn.new.seat.seen) c.enter-turn.ensures.turn.1 c.enter-turn.ensures.turn.0.slot in (
       record { slot = 0; before = before; notes = st.0; drawn = [] },
       noted_turn by_of time_of c.args.seat.now c.enter-turn.new.seat c.leave.new.seat 0 c.enter-turn.result.slot before c.store-stored.new.self.notes st.0 (inside 0 c.enter-turn.result.number ∷ [])
-      c.enter-turn.ensures.turn.1 slot c.enter-turn.ensures.more c.enter-turn.ensures.mine c.requires.seat.rest c.enter-turn.ensures.seat is own c.leave.ensures,
+          c.enter-turn.ensures.turn.1 slot c.enter-turn.ensures.more c.enter-turn.ensures.mine c.requires.seat.rest c.enter-turn.ensures.seat is own c.leave.ensures,
       refl,
       refl,
       subst (λ (n : ℕ). Stores n c.args.line (names_of c.args.part.now) c.store-stored.result st.0) c.number-by.ensures st.2,

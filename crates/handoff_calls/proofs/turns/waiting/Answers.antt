@@ -1,6 +1,5 @@
-use Rattle.std.proofs.Common.{◌≡◌, ℕ, ◌<◌, List, [], ◌∷◌, length, refl, ap, sym, subst, ◌∙◌}
+use Rattle.std.proofs.Common.{◌≡◌, ℕ, ◌<◌, List, [], ◌∷◌, length, refl, ap, subst, ◌∙◌}
 use Rattle.std.specs.Prelude.{IfOk}
-use Rattle.row_types.specs.declared.allocation.Memory.{Memory}
 use Rattle.turn_lock.specs.Tickets.{inside}
 use Rattle.journal_model.specs.declared.notes.Note.{Note}
 use Rattle.journal_model.specs.Layouts.{Channel}
@@ -31,7 +30,7 @@ returns-clause-did g c =
     subst (λ (s : ChannelShard). IfOk c.waiting-segments.result (λ segments. segments.items ≡ waiting_numbers s.channel s.state.notes)) c.value_mut.ensures.value c.waiting-segments.ensures.numbers in (
       record { slot = c.args.channel; before = before; notes = []; drawn = [] },
       quiet_turn by_of time_of c.args.seat.now c.enter-turn.new.seat c.leave.new.seat c.args.channel c.enter-turn.result.slot before c.waiting-segments.new.self.state.notes (inside c.args.channel c.enter-turn.result.number ∷ [])
-      c.enter-turn.ensures.turn.1 slot c.enter-turn.ensures.more c.enter-turn.ensures.mine c.requires.seat.rest c.enter-turn.ensures.seat same c.leave.ensures,
+          c.enter-turn.ensures.turn.1 slot c.enter-turn.ensures.more c.enter-turn.ensures.mine c.requires.seat.rest c.enter-turn.ensures.seat same c.leave.ensures,
       record { slot = refl; none = refl; undrawn = refl },
       subst (λ (k : Channel). IfOk c.waiting-segments.result (λ segments. segments.items ≡ waiting_numbers k before)) channel found,
     )
