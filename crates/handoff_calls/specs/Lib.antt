@@ -1,0 +1,4 @@
+pub mod Seats
+pub mod Turns
+pub mod Handoffs
+pub mod Facts
