@@ -1,0 +1,5 @@
+use Rattle.shard_calls.specs.Fronts.{Spends}
+use Rattle.scan_bench.proofs.timed.write_all.Given as goal
+
+abbrev pub invariant-loop-i : goal.invariant-loop-i
+invariant-loop-i g l = Spends l.i l.fn.seat l.seat
