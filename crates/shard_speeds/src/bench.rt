@@ -8,21 +8,19 @@ use crate::rows::row;
 use channel_view::View;
 use coarse_lists::{Collection, Index};
 use hybrid_time::Timestamp;
-use journal_model::{Home, MoveError, PutKind};
+use journal_model::PutKind;
 use log_model::SharedRow;
 use row_types::{Key, List, Memory, Metric, Row, Schema};
-use seg_sealed::Part;
-use shard_core::{Back, Counts, Looked, Moving, PutReply, SealReply, Shard};
-use std::alloc::{AllocFailed, Global};
+use shard_core::{Looked, PutReply, Shard};
+use std::alloc::Global;
 use std::marker::Model;
 use std::sync::Arc;
 
-/// A shard, the timestamp of its next step, and the moves that were begun. Contracts see these.
+/// A shard and the timestamp of its next step. Contracts see these.
 #[derive(Drop)]
 pub(crate) struct Bench {
     shard: Shard,
     next: u64,
-    moves: Vec<Moving>,
 }
 
 impl Model for Bench {
@@ -30,9 +28,9 @@ impl Model for Bench {
 
     ghost Value = { DrivenShard };
 
-    ghost view = { λ b. record { shard = b.shard; next = b.next; moves = b.moves.items } };
+    ghost view = { λ b. record { shard = b.shard; next = b.next } };
 
-    ghost invariant = { λ b. IsDriven b.shard b.next b.moves.items };
+    ghost invariant = { λ b. IsDriven b.shard b.next };
 }
 
 /// What differs between the collections of benches.
@@ -44,7 +42,7 @@ pub(crate) struct Sizes {
 }
 
 impl Bench {
-    /// An empty shard of a channel, whose rows are of 8 bits, at the timestamp 1.
+    /// An empty shard of a channel, whose rows are of 64 bits, at the timestamp 1.
     pub(crate) fn new(alloc: Global, sizes: Sizes, channel: u32) -> Result<Bench, Memory> {
         let collection = collection_of(alloc, sizes)?;
         if channel >= collection.channels {
@@ -55,17 +53,7 @@ impl Bench {
         Ok(Bench {
             shard,
             next: 1,
-            moves: Vec::new(alloc),
         })
-    }
-
-    /// The timestamp of the next step.
-    pub(crate) fn now(&self) -> Timestamp {
-        Timestamp(self.next)
-    }
-
-    pub(crate) fn len(&self) -> u64 {
-        self.shard.len()
     }
 
     // Room for a step, whose timestamp is the next one.
@@ -124,97 +112,11 @@ impl Bench {
         Ok(was)
     }
 
-    pub(crate) fn tick(&mut self, alloc: Global) -> Result<(), Memory> {
-        self.ready(alloc)?;
-        self.shard.tick(1, 1, Timestamp(self.next));
-        self.next += 1;
-        Ok(())
-    }
-
-    pub(crate) fn seal(&mut self, alloc: Global) -> Result<SealReply, Memory> {
-        self.ready(alloc)?;
-        let reply = self.shard.seal(1, 1, Timestamp(self.next));
-        self.next += 1;
-        Ok(reply)
-    }
-
     /// Looks at all that is there. A look has no timestamp.
     pub(crate) fn look(&mut self, alloc: Global) -> Result<View, Memory> {
         self.ready(alloc)?;
         let looked = self.shard.look(alloc, 1, 1, Timestamp(0))?;
         served(looked)
-    }
-
-    /// Raises the floor to a timestamp between the floor and the tick; otherwise nothing is done.
-    pub(crate) fn raise_floor(&mut self, ts: Timestamp) {
-        if ts.0 < self.shard.floor().0 || self.shard.tick_now().0 < ts.0 {
-            return;
-        }
-        self.shard.set_floor(ts);
-    }
-
-    /// Begins to move a segment from a home.
-    pub(crate) fn begin(
-        &mut self,
-        alloc: Global,
-        segment: u64,
-        from: Home,
-    ) -> Result<(), MoveError> {
-        let moving = self.shard.begin_move(alloc, segment, from)?;
-        or_memory(self.moves.push(moving))
-    }
-
-    /// Loads the segment of the last move on a node; a refusal hands back what was handed in.
-    pub(crate) fn load(
-        &mut self,
-        alloc: Global,
-        node: u32,
-    ) -> Result<Option<Back<(Moving, Part)>>, Memory> {
-        if node >= self.shard.collection().nodes {
-            return Err(Memory);
-        }
-        let Some(moving) = self.moves.pop() else {
-            return Err(Memory);
-        };
-        let part = moving.part().share()?;
-        let done = self.shard.commit_load(alloc, 1, 1, moving, part, node);
-        Ok(done.err())
-    }
-
-    /// Releases a segment from a node.
-    pub(crate) fn release(
-        &mut self,
-        alloc: Global,
-        segment: u64,
-        node: u32,
-    ) -> Result<(), MoveError> {
-        if node >= self.shard.collection().nodes {
-            return Err(MoveError::Memory);
-        }
-        self.shard.commit_release(alloc, 1, 1, segment, node)
-    }
-
-    /// The timestamp of the last tick.
-    pub(crate) fn last_tick(&self) -> u64 {
-        self.shard.tick_now().0
-    }
-
-    pub(crate) fn counts(&mut self, alloc: Global) -> Result<Counts, Memory> {
-        self.shard.counts(alloc)
-    }
-
-    /// The segments that wait at the leader.
-    pub(crate) fn waiting(&mut self, alloc: Global) -> Result<Vec<u64>, Memory> {
-        self.shard.waiting(alloc)
-    }
-
-    /// The segments on a node.
-    pub(crate) fn on_node(&mut self, alloc: Global, node: u32) -> Result<Vec<u64>, Memory> {
-        self.shard.on_node(alloc, node)
-    }
-
-    pub(crate) fn choose_node(&self) -> u32 {
-        self.shard.choose_node()
     }
 }
 
@@ -226,14 +128,7 @@ fn served(looked: Looked) -> Result<View, Memory> {
     }
 }
 
-fn or_memory(pushed: Result<(), AllocFailed<Moving>>) -> Result<(), MoveError> {
-    match pushed {
-        Ok(()) => Ok(()),
-        Err(_) => Err(MoveError::Memory),
-    }
-}
-
-/// A collection without columns, whose rows are of 8 bits.
+/// A collection without columns, whose rows are of 64 bits.
 fn collection_of(alloc: Global, sizes: Sizes) -> Result<Collection, Memory>
     ensures { IfOk result IsInRange }
 {

@@ -7,7 +7,6 @@ use journal_model::PutKind;
 use row_types::{Key, Memory, Row};
 use std::alloc::Global;
 use std::fs;
-use std::test::Fail;
 use std::time::Instant;
 
 fn bench(alloc: Global) -> Result<Bench, Memory> {
@@ -339,61 +338,6 @@ fn memory_on(rt: &HostRuntime, alloc: Global, bench: &mut Bench, n: u32) -> Resu
     pages(rt, "after the view")
 }
 
-#[test]
-fn a_memory(rt: HostRuntime) -> Result<(), Fail> {
-    memory(&rt, rt.alloc(), 200_000)?;
-    Ok(())
-}
-
-#[test]
-fn b_rows(rt: HostRuntime) -> Result<(), Fail> {
-    for _ in 0..3 {
-        rows(&rt, rt.alloc(), 200_000)?;
-    }
-    Ok(())
-}
-
-#[test]
-fn c_puts(rt: HostRuntime) -> Result<(), Fail> {
-    for _ in 0..5 {
-        random(&rt, rt.alloc(), 200_000)?;
-        rising(&rt, rt.alloc(), 200_000)?;
-        random(&rt, rt.alloc(), 100_000)?;
-        rising(&rt, rt.alloc(), 100_000)?;
-        random(&rt, rt.alloc(), 400_000)?;
-        rising(&rt, rt.alloc(), 400_000)?;
-    }
-    Ok(())
-}
-
-#[test]
-fn d_upserts(rt: HostRuntime) -> Result<(), Fail> {
-    for _ in 0..5 {
-        upserts(&rt, rt.alloc(), 200_000)?;
-        upserts(&rt, rt.alloc(), 100_000)?;
-        deletes(&rt, rt.alloc(), 200_000)?;
-        deletes(&rt, rt.alloc(), 100_000)?;
-    }
-    Ok(())
-}
-
-#[test]
-fn e_late(rt: HostRuntime) -> Result<(), Fail> {
-    for _ in 0..5 {
-        late(&rt, rt.alloc(), 204_800)?;
-    }
-    Ok(())
-}
-
-#[test]
-fn f_looks(rt: HostRuntime) -> Result<(), Fail> {
-    for _ in 0..3 {
-        looks(&rt, rt.alloc(), 200_000)?;
-        looks(&rt, rt.alloc(), 100_000)?;
-    }
-    Ok(())
-}
-
 // Rows that stand ready, as those of a request do.
 fn ready_rows(alloc: Global, n: u32) -> Result<Vec<Row>, Memory> {
     let mut rows = Vec::with_capacity(alloc, n as usize)?;
@@ -422,16 +366,25 @@ fn ready_on(
     n: u32,
 ) -> Result<(), Memory> {
     let start = now(rt)?;
-    while let Some(made) = rows.pop() {
-        bench.put_row(alloc, PutKind::Insert, made)?;
+    for _ in 0..n {
+        if let Some(made) = rows.pop() {
+            bench.put_row(alloc, PutKind::Insert, made)?;
+        }
     }
     tell(rt, "puts of rows that stand ready", n, start)
 }
 
-#[test]
-fn g_ready(rt: HostRuntime) -> Result<(), Fail> {
-    for _ in 0..10 {
-        ready_puts(&rt, rt.alloc(), 40_000)?;
+/// Times what a word names, at so many rows.
+pub(crate) fn run(rt: &HostRuntime, alloc: Global, what: &str, n: u32) -> Result<(), Memory> {
+    match what {
+        "memory" => memory(rt, alloc, n),
+        "rows" => rows(rt, alloc, n),
+        "random" => random(rt, alloc, n),
+        "rising" => rising(rt, alloc, n),
+        "upserts" => upserts(rt, alloc, n),
+        "deletes" => deletes(rt, alloc, n),
+        "late" => late(rt, alloc, n),
+        "looks" => looks(rt, alloc, n),
+        _ => ready_puts(rt, alloc, n),
     }
-    Ok(())
 }

@@ -10,4 +10,4 @@ put-reply-requires-clause-follows c = follow_above c.self.inside.shard.state.not
 
 pub invariant_of-self : goal.invariant_of-self
 invariant_of-self c =
-    driven_on c.self.inside.next c.self.inside.moves.items c.self.inside.shard c.put-reply.new.self (note_of 1 1 (Put (record { 0 = c.self.inside.next }) c.args.how c.of-row.result)) (omega arith) c.put-reply.ensures.step.state c.put-reply.ensures.step.channel c.self.invariant
+    driven_on c.self.inside.next c.self.inside.shard c.put-reply.new.self (note_of 1 1 (Put (record { 0 = c.self.inside.next }) c.args.how c.of-row.result)) (omega arith) c.put-reply.ensures.step.state c.self.invariant

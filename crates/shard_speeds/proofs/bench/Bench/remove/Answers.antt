@@ -10,4 +10,4 @@ remove_key-was-requires-clause-follows c = follow_above c.self.inside.shard.stat
 
 pub invariant_of-self : goal.invariant_of-self
 invariant_of-self c =
-    driven_on c.self.inside.next c.self.inside.moves.items c.self.inside.shard c.remove_key-was.new.self (note_of 1 1 (Remove (record { 0 = c.self.inside.next }) c.args.key)) (omega arith) c.remove_key-was.ensures.step.state c.remove_key-was.ensures.step.channel c.self.invariant
+    driven_on c.self.inside.next c.self.inside.shard c.remove_key-was.new.self (note_of 1 1 (Remove (record { 0 = c.self.inside.next }) c.args.key)) (omega arith) c.remove_key-was.ensures.step.state c.self.invariant

@@ -1,8 +1,0 @@
-use Rattle.std.proofs.Common.{ap}
-use Rattle.shard_core.specs.Shards.{ChannelShard}
-use Rattle.shard_speeds.proofs.StepLaws.{driven_same}
-use Rattle.shard_speeds.proofs.bench.Bench.on_node.Goals as goal
-
-pub invariant_of-self : goal.invariant_of-self
-invariant_of-self c =
-    driven_same c.self.inside.next c.self.inside.moves.items c.self.inside.shard c.on_node.new.self (ap (λ (s : ChannelShard). s.state.notes) c.on_node.ensures.same) (ap (λ (s : ChannelShard). s.channel) c.on_node.ensures.same) c.self.invariant

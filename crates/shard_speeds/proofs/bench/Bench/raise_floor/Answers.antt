@@ -1,8 +1,0 @@
-use Rattle.std.proofs.Common.{ap}
-use Rattle.journal_model.specs.Runs.{State}
-use Rattle.shard_speeds.proofs.StepLaws.{driven_same}
-use Rattle.shard_speeds.proofs.bench.Bench.raise_floor.Goals as goal
-
-pub invariant_of-self : goal.invariant_of-self
-invariant_of-self c =
-    driven_same c.self.inside.next c.self.inside.moves.items c.self.inside.shard c.set_floor.new.self (ap (λ (s : State). s.notes) c.set_floor.ensures.state) c.set_floor.ensures.channel c.self.invariant
