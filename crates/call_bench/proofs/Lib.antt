@@ -1,3 +1,3 @@
-pub mod Alone
 pub mod Fronts
+pub mod NotesBelow
 pub mod Seats
