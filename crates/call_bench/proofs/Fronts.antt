@@ -1,5 +1,5 @@
 -- One empty channel is all channels of a collection that has one.
-use Rattle.std.proofs.Common.{◌≡◌, ℕ, zero, suc, ◌<◌, List, [], ◌∷◌, map, length, refl, ap, ap₂, sym, ◌∙◌, subst, arith}
+use Rattle.std.proofs.Common.{◌≡◌, ℕ, zero, suc, ◌<◌, List, [], ◌∷◌, ap, ap₂, sym, ◌∙◌, subst, arith}
 use mathlib.Core.Option.{some-injective, some-ne-none}
 use Rattle.turn_facts.specs.Counts.{count, Among}
 use Rattle.turn_facts.specs.Notes.{times}
@@ -8,12 +8,11 @@ use Rattle.turn_facts.proofs.Counts.{count-nil}
 use Rattle.turn_facts.proofs.Notes.{times-nil}
 use Rattle.coarse_lists.specs.declared.collections.Collection.{Collection}
 use Rattle.coarse_lists.specs.Collections.{IsInRange}
-use Rattle.journal_model.specs.declared.notes.Note.{Note}
 use Rattle.journal_model.specs.Layouts.{Channel}
 use Rattle.journal_model.specs.Runs.{State}
 use Rattle.shard_core.specs.Shards.{ChannelShard, ChannelBase, base_of}
 use Rattle.call_model.specs.Turns.{by_of, time_of}
-use Rattle.shard_calls.specs.Fronts.{notes_of, base_at, AreShards}
+use Rattle.shard_calls.specs.Fronts.{base_at, AreShards}
 
 base_is : (collection : Collection) (k : ℕ) (s : ChannelShard) → s.collection ≡ collection → s.channel ≡ record { number = k; seal_rows = collection.seal_rows } → s.state ≡ record { notes = []; floor = 0 } → base_of s ≡ base_at collection 0 k
 base_is collection k s of_it named rests =

@@ -1,5 +1,5 @@
 -- The notes of a shard that is put to stay below its clock.
-use Rattle.std.proofs.Common.{◌≡◌, ℕ, ◌+◌, List, [], ◌∷◌, ◌++◌, sym, subst}
+use Rattle.std.proofs.Common.{◌≡◌, ℕ, ◌+◌, sym, subst}
 use Rattle.journal_model.specs.declared.notes.Note.{Note}
 use Rattle.journal_model.specs.Notes.{ts_of}
 use Rattle.journal_model.specs.Journals.{UpTo, AreBelow}

@@ -1,5 +1,5 @@
 -- What is left of a seat after calls, and of one that is split.
-use Rattle.std.proofs.Common.{◌≡◌, ℕ, ◌+◌, ◌-◌, ◌^◌, ◌≤◌, List, [], length, refl, ap, sym, ◌∙◌, subst, arith}
+use Rattle.std.proofs.Common.{◌≡◌, ℕ, ◌+◌, ◌^◌, ◌≤◌, List, length, refl, ap, sym, ◌∙◌, subst, arith}
 use Rattle.turn_table.specs.Seats.{Table, SeatView, first_seat}
 use Rattle.journal_model.specs.declared.notes.Note.{Note}
 use Rattle.shard_core.specs.Shards.{ChannelBase}

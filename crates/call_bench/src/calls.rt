@@ -93,7 +93,16 @@ fn search_once<R: Wait>(
     ensures { Spends 2 seat.old seat.new }
 {
     let _turns = front.turns();
-    let answer = search(front, alloc, call, seat, query, Level::Strong, Timestamp(0), true)?;
+    let answer = search(
+        front,
+        alloc,
+        call,
+        seat,
+        query,
+        Level::Strong,
+        Timestamp(0),
+        true,
+    )?;
     Ok(hits_in(&answer))
 }
 

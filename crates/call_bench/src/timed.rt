@@ -23,7 +23,9 @@ use std::time::Instant;
 use turn_table::Seat;
 
 const WRITES: u32 = 200_000;
+
 const ROWS: u32 = 4096;
+
 const SEARCHES: u32 = 2000;
 
 /// Nanoseconds a call: a write, the put of a shard alone, a search, and the scan of its view alone.

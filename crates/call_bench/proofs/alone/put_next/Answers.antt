@@ -1,4 +1,4 @@
-use Rattle.std.proofs.Common.{refl, arith}
+use Rattle.std.proofs.Common.{arith}
 use Rattle.journal_model.specs.declared.notes.Kind.TheVariants.{Put}
 use Rattle.journal_model.specs.declared.notes.PutKind.TheVariants.{Insert}
 use Rattle.journal_model.specs.Notes.{note_of}
